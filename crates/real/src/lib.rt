@@ -1,0 +1,1 @@
+// Numbers: f64 and whole numbers.
