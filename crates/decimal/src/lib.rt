@@ -1,0 +1,2 @@
+// A decimal: bytes to the nearest f64.
+pub mod nearest;
