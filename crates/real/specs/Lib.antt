@@ -2,3 +2,4 @@
 pub mod FractionAt
 pub mod PartsOf
 pub mod InMinute
+pub mod StepMost
