@@ -1,77 +1,83 @@
--- From the bit pattern of a value above zero to the value: m * 2 ^ (e - 1) units, where e is the exponent's field. Assumes nothing.
+-- From the bit pattern of a finite value to its size: m * 2 ^ (e - 1) units of 2 ^ -1074, where e is the exponent's field. Assumes nothing.
 use mathlib.Core.Path.{_≡_, refl, sym, ap, _∙_, subst}
-use Prim.Native.Nat.{ℕ, zero, suc, pred, _+_, _-_, _*_, _/_, _%_, _^_, _≤_, _<_}
-use native.Mathlib.Nat.{le-trans, le-of-eq, lt-of-lt-of-le, not-le-of-lt, lt-of-not-le, mul-one, mul-le-mul, mod-eq-of-lt, le-add-right}
+use Prim.Native.Nat.{ℕ, zero, suc, _+_, _-_, _*_, _/_, _%_, _^_, _≤_, _<_}
+use native.Mathlib.Nat.{lt-of-not-le, not-le-of-lt, lt-of-le-of-lt, lt-of-lt-of-le, le-of-eq, le-of-suc-le-suc, mul-one, mul-assoc, mul-comm, mul-right-comm, mul-le-mul, mul-lt-mul-of-pos-right, lt-of-mul-lt-mul-right, eq-of-mul-eq-mul-right, mod-lt, le-add-right}
 use native.Mathlib.Omega.{arith}
-use mathlib.Core.Bool.{Bool, true, false, not, cond, true≢false}
-use lib.Dec.{T, leb, ltb, eqb, lit≤, ltb→lt, nleb→lt, leb→le}
+use mathlib.Core.Bool.{Bool, true, false, cond}
+use lib.Dec.{T, leb, eqb, lit≤}
 use lib.IntN.{ℤ, pos}
 use lib.Pow.{pow-pos, pow-mono, pow-add}
-use lib.Ieee.{Float, nan, inf, fin, binary64, up, down, fits, isNan, lt, odd, ofFields, ofBits, toBits}
+use lib.Ieee.{Float, nan, inf, fin, binary64, fits, odd, ofFields, ofBits, toBits}
 use lib.Ieee.Exact.{HasValue, odd-sign}
 use lib.Ieee.Bits.{ofBits-toBits}
-use lib.Ieee.Positive.{positive}
-use Rattle.real.proofs.Frac.{lt-units, none}
+use lib.Ieee.Positive.{num, den, den-pos}
+use lib.Ieee.Scale.{finite}
+use Rattle.real.specs.PartsOf.{PartsOf}
 
-pub pos-sign : (v : Float) (s : Bool) (a c : ℕ) → T (positive v) → HasValue v s a c → s ≡ false
-pos-sign nan s a c p h = absurd p
-pos-sign (inf t) s a c p h = absurd p
-pos-sign (fin true m e) s a c p h = absurd p
-pos-sign (fin false m e) s a c p h = sym (h .0)
-
--- the digits with their leading one
+-- the digits with their leading one, shifted
 abbrev pub lead : ℕ → ℕ → ℕ
 lead zero t = t
-lead (suc x) t = (2 ^ 52 + t) * 2 ^ x
+lead (suc e) t = (2 ^ 52 + t) * 2 ^ e
 
-abbrev Read : Bool → ℕ → ℕ → Float → Type 0
-Read s x t v = (s ≡ false) × HasValue v false (lead x t) (2 ^ 1074)
+-- the size of x is a of those units
+abbrev Units : Float → ℕ → Type 0
+Units x a = num x * 2 ^ 1074 ≡ a * den x
 
-of-odd : (s : Bool) (q k : ℕ) (v : Float) → T (positive v) → v ≡ odd 53 s q k 1074 → (s ≡ false) × HasValue v false (q * 2 ^ k) (2 ^ 1074)
-of-odd s q k v p e =
-    let h : HasValue v s (q * 2 ^ k) (2 ^ 1074) = subst (λ (z : Float). HasValue z s (q * 2 ^ k) (2 ^ 1074)) (sym e) (odd-sign 53 s q k 1074) in
-    let i = pos-sign v s (q * 2 ^ k) (2 ^ 1074) p h in
-    (i, subst (λ (z : Bool). HasValue v z (q * 2 ^ k) (2 ^ 1074)) i h)
-
-no-inf : (v : Float) (s : Bool) → T (positive v) → v ≡ inf s → ⊥
-no-inf v s p e = subst (λ (z : Float). T (positive z)) e p
-
-no-nan : (v : Float) → T (positive v) → v ≡ nan → ⊥
-no-nan v p e = subst (λ (z : Float). T (positive z)) e p
-
-read : (s : Bool) (x t : ℕ) (v : Float) → T (positive v) → v ≡ ofFields binary64 s x t → Read s x t v
-unfolding ofFields
-read s zero t v p e = let r = of-odd s t 0 v p e in (r .0, subst (λ (z : ℕ). HasValue v false z (2 ^ 1074)) (mul-one t) (r .1))
-read s (suc x) t v p e = go (eqb (suc x) 2047) (eqb t 0) e
+of-odd : (s : Bool) (q k : ℕ) (x : Float) → x ≡ odd 53 s q k 1074 → Units x (q * 2 ^ k)
+of-odd s q k x i = size x (subst (λ (z : Float). HasValue z s (q * 2 ^ k) (2 ^ 1074)) (sym i) (odd-sign 53 s q k 1074))
   where
-    go : (a b : Bool) → v ≡ cond a (cond b (inf s) nan) (odd 53 s (2 ^ 52 + t) x 1074) → Read s (suc x) t v
-    go true true q = absurd (no-inf v s p q)
-    go true false q = absurd (no-nan v p q)
-    go false b q = of-odd s (2 ^ 52 + t) x v p q
+    size : (x : Float) → HasValue x s (q * 2 ^ k) (2 ^ 1074) → Units x (q * 2 ^ k)
+    size nan h = absurd h
+    size (inf t) h = absurd h
+    size (fin t m e) h = h .1
 
--- ---- the pattern of x, which is above zero
-pub record Decoded (x : Float) (b : ℕ) : Type 0 where
-  pub plain : b < 2 ^ 63
-  pub is : HasValue x false (lead (b / 2 ^ 52) (b % 2 ^ 52)) (2 ^ 1074)
+of-fields : (s : Bool) (e t : ℕ) (x : Float) → T (finite x) → x ≡ ofFields binary64 s e t → Units x (lead e t)
+unfolding ofFields
+of-fields s zero t x f i = of-odd s t 0 x i ∙ ap (λ (z : ℕ). z * den x) (mul-one t)
+of-fields s (suc e) t x f i = go (eqb (suc e) 2047) (eqb t 0) i
+  where
+    go : (a b : Bool) → x ≡ cond a (cond b (inf s) nan) (odd 53 s (2 ^ 52 + t) e 1074) → Units x (lead (suc e) t)
+    go true true i = absurd (subst (λ (z : Float). T (finite z)) i f)
+    go true false i = absurd (subst (λ (z : Float). T (finite z)) i f)
+    go false b i = of-odd s (2 ^ 52 + t) e x i
 
 ofBits-is : (b : ℕ) → ofBits binary64 b ≡ ofFields binary64 (leb (2 ^ 63) b) (b % 2 ^ 63 / 2 ^ 52) (b % 2 ^ 52)
 unfolding ofBits
 ofBits-is b = refl
 
-pub decoded : (x : Float) → T (fits binary64 x) → T (positive x) → Decoded x (toBits binary64 x)
-decoded x f p =
-    let b = toBits binary64 x in
-    let r = read (leb (2 ^ 63) b) (b % 2 ^ 63 / 2 ^ 52) (b % 2 ^ 52) x p (sym (ofBits-toBits binary64 x f) ∙ ofBits-is b) in
-    let l : b < 2 ^ 63 = nleb→lt (2 ^ 63) b (subst (λ (z : Bool). T (not z)) (sym (r .0)) tt) in
-    record { plain = l; is = subst (λ (z : ℕ). HasValue x false (lead (z / 2 ^ 52) (b % 2 ^ 52)) (2 ^ 1074)) (mod-eq-of-lt l) (r .1) }
+module _ (x : Float) (fit : T (fits binary64 x)) (fin-x : T (finite x)) where
+  -- the pattern without its sign
+  abbrev bits : ℕ
+  bits = toBits binary64 x % 2 ^ 63
 
--- ---- x below 2 ^ 53 has an exponent's field up to 1075
-abbrev pub two53 : Float
-two53 = fin false 1 (pos 53)
+  decoded : Units x (lead (bits / 2 ^ 52) (bits % 2 ^ 52))
+  decoded =
+      let b = toBits binary64 x in
+      let below : b % 2 ^ 63 % 2 ^ 52 ≡ b % 2 ^ 52 = omega arith in
+      of-fields (leb (2 ^ 63) b) (b % 2 ^ 63 / 2 ^ 52) (b % 2 ^ 52) x fin-x (sym (ofBits-toBits binary64 x fit) ∙ ofBits-is b) ∙ ap (λ (t : ℕ). lead (b % 2 ^ 63 / 2 ^ 52) t * den x) (sym below)
 
-pub field-le : (x : Float) (b : ℕ) → T (lt x two53) → Decoded x b → b / 2 ^ 52 ≤ 1075
-field-le x b t d = go (b / 2 ^ 52) (lt-units x two53 (lead (b / 2 ^ 52) (b % 2 ^ 52)) (2 ^ 1127) (2 ^ 1074) (pow-pos 1074) (d .is) (refl, refl) t)
-  where
-    go : (e : ℕ) → lead e (b % 2 ^ 52) < 2 ^ 1127 → e ≤ 1075
-    go zero l = lit≤ tt
-    go (suc e) l = lt-of-not-le (λ (g : 1075 ≤ e). not-le-of-lt l (mul-le-mul {n₁ = 2 ^ 52} {m₁ = 2 ^ 1075} {n₂ = 2 ^ 52 + b % 2 ^ 52} {m₂ = 2 ^ e} (le-add-right (2 ^ 52) (b % 2 ^ 52)) (pow-mono g)))
+  -- a size below 2 ^ 53 has an exponent's field up to 1075
+  pub field-le : num x < 2 ^ 53 * den x → bits / 2 ^ 52 ≤ 1075
+  field-le h = go (bits / 2 ^ 52) (lt-of-mul-lt-mul-right (den x) (lt-of-le-of-lt (le-of-eq (sym decoded)) (less (num x) (2 ^ 1074) (pow-pos 1074) h)))
+    where
+      less : (n L : ℕ) → 0 < L → n < 2 ^ 53 * den x → n * L < 2 ^ 53 * L * den x
+      less n L P h = lt-of-lt-of-le (mul-lt-mul-of-pos-right h P) (le-of-eq (mul-right-comm (2 ^ 53) (den x) L))
+
+      go : (e : ℕ) → lead e (bits % 2 ^ 52) < 2 ^ 53 * 2 ^ 1074 → e ≤ 1075
+      go zero l = lit≤ tt
+      go (suc e) l = lt-of-not-le (λ (g : 1075 ≤ e). not-le-of-lt l (mul-le-mul {n₁ = 2 ^ 52} {m₁ = 2 ^ 1075} {n₂ = 2 ^ 52 + bits % 2 ^ 52} {m₂ = 2 ^ e} (le-add-right (2 ^ 52) (bits % 2 ^ 52)) (pow-mono g)))
+
+  pub parts-normal : 0 < bits / 2 ^ 52 → bits / 2 ^ 52 ≤ 1075 → PartsOf x (2 ^ 52 + bits % 2 ^ 52) (1075 - bits / 2 ^ 52)
+  parts-normal p h = record { is = go (bits / 2 ^ 52) decoded p h; small = omega arith }
+    where
+      up-again : (e : ℕ) → suc e ≤ 1075 → 1075 - suc e + e ≡ 1074
+      up-again e h = omega arith
+
+      go : (e : ℕ) → Units x (lead e (bits % 2 ^ 52)) → 0 < e → e ≤ 1075 → num x * 2 ^ (1075 - e) ≡ (2 ^ 52 + bits % 2 ^ 52) * den x
+      go zero d p h = absurd (omega arith)
+      go (suc e) d p h =
+          eq-of-mul-eq-mul-right (2 ^ e) (pow-pos e) (num x * 2 ^ (1075 - suc e)) ((2 ^ 52 + bits % 2 ^ 52) * den x)
+          (mul-assoc (num x) (2 ^ (1075 - suc e)) (2 ^ e) ∙ ap (λ (z : ℕ). num x * z) (sym (pow-add 2 (1075 - suc e) e) ∙ ap (λ (z : ℕ). 2 ^ z) (up-again e h)) ∙ d ∙ mul-right-comm (2 ^ 52 + bits % 2 ^ 52) (2 ^ e) (den x))
+
+  pub parts-small : bits / 2 ^ 52 ≡ 0 → PartsOf x (bits % 2 ^ 52) 1074
+  parts-small z = record { is = decoded ∙ ap (λ (e : ℕ). lead e (bits % 2 ^ 52) * den x) z; small = omega arith }
