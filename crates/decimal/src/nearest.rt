@@ -4,13 +4,13 @@
 // Otherwise the 64 highest bits of the exact value are worked out over whole numbers, with whether anything is left below them (`sticky`),
 // and rounded to the 53 that an f64 keeps. The twos of 10^k = 5^k * 2^k only move the exponent.
 ghost use mathlib.Core.Path.{_≡_};
-ghost use Prim.Native.Nat.{_+_, _*_, _^_, _≤_, _<_};
+ghost use Prim.Native.Nat.{_+_, _*_, _^_, _≤_, _<_, min};
 ghost use mathlib.Core.Bool.{false};
 ghost use lib.Ieee.{ofBits, round, binary64};
 ghost use lib.Ieee.Exact.{HasValue};
 ghost use Rattle.real.proofs.Pack.{near11};
 ghost use Rattle.real.proofs.Pack.{up11 as Pack·up11};
-ghost use Rattle.decimal.specs.Steps.{Led, Divided, Narrowed};
+ghost use Rattle.decimal.specs.Steps.{Room, Led, Divided, Narrowed};
 
 // d / 10^k.
 pub fn below(d: u64, k: u64) -> f64
@@ -133,13 +133,26 @@ fn lead(d: u64) -> Moved
     requires { ⌜ 0 < d ⌝ }
     ensures { λ r. ⌜ Led d (r .n) (r .s) ⌝ }
 {
-    let mut n = d;
-    let mut s: u64 = 0;
-    while n < 9223372036854775808 {
-        n = n * 2;
-        s += 1;
+    let s = zeros(d);
+    Moved {
+        n: d * two_to(s),
+        s,
     }
-    Moved { n, s }
+}
+
+// By how many places n can be moved up.
+fn zeros(n: u64) -> u64
+    requires { ⌜ 0 < n ⌝ }
+    ensures { λ r. ⌜ Room n r ⌝ }
+{
+    u64::leading_zeros(n) as u64
+}
+
+fn two_to(j: u64) -> u64
+    requires { ⌜ j < 64 ⌝ }
+    ensures { λ r. ⌜ r ≡ 2 ^ j ⌝ }
+{
+    1 << j
 }
 
 // 5^k.
@@ -156,28 +169,32 @@ fn fives(k: u64) -> u64
     f
 }
 
-// n / by to 64 bits: long division, a bit at a time.
+// n / by to 64 bits: long division, up to 12 bits at a time.
 fn quotient(n: u64, by: u64) -> Top
-    requires { ⌜ (2 ^ 63 ≤ n) × (0 < by) × (by ≤ 2 ^ 62) ⌝ }
+    requires { ⌜ (2 ^ 63 ≤ n) × (0 < by) × (by ≤ 2 ^ 52) ⌝ }
     ensures { λ r. ⌜ Divided n by (r .m) (r .t) (r .sticky) ⌝ }
 {
     let mut m = n / by;
     let mut r = n % by;
     let mut t: u64 = 0;
     while m < 9223372036854775808 {
-        m = m * 2;
-        r = r * 2;
-        if r >= by {
-            r = r - by;
-            m = m + 1;
-        }
-        t += 1;
+        let j = twelve(zeros(m));
+        let f = two_to(j);
+        m = m * f + r * f / by;
+        r = r * f % by;
+        t += j;
     }
     Top {
         m,
         t,
         sticky: r > 0,
     }
+}
+
+fn twelve(j: u64) -> u64
+    ensures { λ r. ⌜ r ≡ min j 12 ⌝ }
+{
+    if j < 12 { j } else { 12 }
 }
 
 // A number in two words: hi * 2^64 + lo.
@@ -202,22 +219,24 @@ fn product(u: u64, v: u64) -> Wide
     Wide { hi, lo }
 }
 
-// A number in two words to its 64 highest bits, a bit at a time.
+// A number in two words to its 64 highest bits.
 fn narrow(high: u64, low: u64) -> Top
-    requires { ⌜ 2 ^ 63 ≤ high * 2 ^ 64 + low ⌝ }
+    requires { ⌜ (2 ^ 63 ≤ high * 2 ^ 64 + low) × (high < 2 ^ 63) ⌝ }
     ensures { λ r. ⌜ Narrowed (high * 2 ^ 64 + low) (r .m) (r .t) (r .sticky) ⌝ }
 {
-    let mut hi = high;
-    let mut m = low;
-    let mut t: u64 = 0;
-    let mut sticky = false;
-    while hi > 0 {
-        if m % 2 == 1 {
-            sticky = true;
-        }
-        m = m / 2 + hi % 2 * 9223372036854775808;
-        hi = hi / 2;
-        t += 1;
+    if high == 0 {
+        return Top {
+            m: low,
+            t: 0,
+            sticky: false,
+        };
     }
-    Top { m, t, sticky }
+    let z = zeros(high);
+    let t = 64 - z;
+    let unit = two_to(t);
+    Top {
+        m: high * two_to(z) + low / unit,
+        t,
+        sticky: low % unit > 0,
+    }
 }
