@@ -11,6 +11,7 @@ use lib.Ieee.{binary64, nanBits}
 use lib.Ieee.Bits.{nanBits-above}
 use Rattle.decimal.specs.Steps.{Room, Narrowed}
 
+-- a number of k bits is moved up from 1 by fewer than k places
 pub few-of : (s n k : ℕ) → 2 ^ s ≤ n → n < 2 ^ k → s < k
 few-of s n k a b = lt-of-not-le (λ (g : k ≤ s). not-le-of-lt b (le-trans (pow-mono g) a))
 
@@ -66,10 +67,10 @@ fills m q j l h k =
     let e : 2 ^ (64 - j) * 2 ^ j ≡ 2 ^ 64 = sym (pow-add 2 (64 - j) j) ∙ ap (λ (x : ℕ). 2 ^ x) (sub-add-cancel l) in
     let u : suc m * 2 ^ j ≤ 2 ^ 64 = le-trans (mul-le-mul-right (2 ^ j) (lt-of-mul-lt-mul-right (2 ^ j) (lt-of-lt-of-le h (le-of-eq (sym e))))) (le-of-eq e) in
     let s : suc m * 2 ^ j ≡ m * 2 ^ j + 2 ^ j = suc-mul m (2 ^ j) in
-    room (m * 2 ^ j) q (2 ^ j) (suc m * 2 ^ j) (2 ^ 64) s u k
+    under (m * 2 ^ j) q (2 ^ j) (suc m * 2 ^ j) (2 ^ 64) s u k
   where
-    room : (a q f b z : ℕ) → b ≡ a + f → b ≤ z → q < f → a + q < z
-    room a q f b z e u k = omega arith
+    under : (a q f b z : ℕ) → b ≡ a + f → b ≤ z → q < f → a + q < z
+    under a q f b z e u k = omega arith
 
 pub division-goes : (n by m r t j : ℕ) → j ≤ 64 → m * 2 ^ j < 2 ^ 64 → Dividing n by m r t → Dividing n by (m * 2 ^ j + r * 2 ^ j / by) (r * 2 ^ j % by) (t + j)
 division-goes n by m r t j l h i =

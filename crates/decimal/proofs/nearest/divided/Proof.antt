@@ -46,7 +46,7 @@ returns c =
     c .pack .ensures
     ∙ below-is (a .d) (l .lead .result .n) (l .lead .result .s) (a .k) (v .m) (v .t) (v .sticky) (l .lead .ensures)
     (subst (λ (x : ℕ). Divided (l .lead .result .n) x (v .m) (v .t) (v .sticky)) (f .fives .ensures) (q .quotient .ensures))
-    (l .before .pre .1) (q .quotient .ensures .wide)
+    (l .before .pre .1)
 
 pub divided-spec : {M : Type 1} → statement M
 divided-spec =

@@ -52,7 +52,7 @@ returns c =
     ∙ above-is (a .d) (l .lead .result .n) (l .lead .result .s) (a .k) (p .product .result .hi * 2 ^ 64 + p .product .result .lo) (v .m) (v .t) (v .sticky) (l .lead .ensures)
     (p .product .ensures ∙ ap (λ (x : ℕ). l .lead .result .n * x) (f .fives .ensures))
     (n .narrow .ensures)
-    (l .before .pre .1) (n .narrow .ensures .wide)
+    (l .before .pre .1)
 
 pub multiplied-spec : {M : Type 1} → statement M
 multiplied-spec =
