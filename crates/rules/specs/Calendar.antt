@@ -5,7 +5,7 @@ use mathlib.Core.List.{List, [], _∷_}
 use lib.Dec.{eqb, ltb, leb}
 use lib.ListN.{take, getD}
 use Rattle.rules.specs.Basics.{if_then_else_}
-use Rattle.rules.specs.declared.Ymd.{Ymd}
+use Rattle.rules.specs.Types.{Ymd}
 
 -- the year n, and the year -n, as they are held
 abbrev pub year : ℕ → ℕ
@@ -133,8 +133,6 @@ timeOfDay t = (t - start) % dayLength
 -- "Milliseconds to fields takes 0 to the last and gives an existing day": the date of an instant's day
 unfoldable pub civil : ℕ → Ymd
 civil t = dateAfter (dayOf t)
-
--- ---- weeks
 
 -- the days since the last Monday, and since the last Sunday: the day of the millisecond 0 was a Monday
 unfoldable pub sinceMonday : ℕ → ℕ

@@ -1,15 +1,81 @@
--- The steps that fill the record: "each step takes the whole record and hands the next one back".
+-- The record, "civil fields whose seconds are a 64-bit float, beside milliseconds and flags", and the steps that fill it.
+-- src/lib.rt says what each field is in the Rust.
 use Prim.Native.Nat.{ℕ, _+_, _-_, _*_, _/_, _%_}
 use mathlib.Core.Bool.{Bool, true, false, not, _&&_}
-use lib.Dec.{eqb, leb}
 use lib.IntN.{ℤ}
 use lib.Ieee.{Float}
-use Rattle.rules.specs.Basics.{if_then_else_, move}
+use Rattle.rules.specs.Basics.{move, if_then_else_}
 use Rattle.rules.specs.Floats.{number, _⊕_, _⊗_, _⊘_, half, whole}
-use Rattle.rules.specs.Calendar.{year, minusYear, inRange, monthLength, midnight, timeOfDay, civil}
-use Rattle.rules.specs.Record.{noZone, counted, failure, setMs, setDate, setDated, setTime, setTimed, setOver, setRaw, setUtc, clear}
-use Rattle.rules.specs.declared.Moment.{Moment}
-use Rattle.rules.specs.declared.Ymd.{Ymd}
+use Rattle.rules.specs.Calendar.{year, instant, minusYear, inRange, monthLength, midnight, timeOfDay, civil}
+use Rattle.rules.specs.Types.{Moment, Ymd}
+use lib.Dec.{eqb, leb}
+
+-- no zone, as it is held
+abbrev pub noZone : ℕ
+noZone = 1440
+
+-- nothing is known: 2000-01-01 00:00 stands in for what is asked
+abbrev pub unknown : Bool → Moment
+unknown bad = record { ms = instant 0; year = year 2000; month = 1; day = 1; hour = 0; minute = 0; second = number 0; zone = noZone; over = 0; counted = false; dated = false; timed = false; raw = false; failed = bad; subsec = false; utc = false; local = false }
+
+abbrev pub blank : Moment
+blank = unknown false
+
+-- "A failed field sum leaves the Rust's error record"
+abbrev pub failure : Moment
+failure = unknown true
+
+-- ---- setters: what one does not name stays
+
+abbrev pub setMs : Moment → ℕ → Moment
+setMs p n = record { ms = n; year = p .year; month = p .month; day = p .day; hour = p .hour; minute = p .minute; second = p .second; zone = p .zone; over = p .over; counted = p .counted; dated = p .dated; timed = p .timed; raw = p .raw; failed = p .failed; subsec = p .subsec; utc = p .utc; local = p .local }
+
+abbrev pub setCounted : Moment → Bool → Moment
+setCounted p b = record { ms = p .ms; year = p .year; month = p .month; day = p .day; hour = p .hour; minute = p .minute; second = p .second; zone = p .zone; over = p .over; counted = b; dated = p .dated; timed = p .timed; raw = p .raw; failed = p .failed; subsec = p .subsec; utc = p .utc; local = p .local }
+
+abbrev pub setDate : Moment → ℕ → ℕ → ℕ → Moment
+setDate p y m d = record { ms = p .ms; year = y; month = m; day = d; hour = p .hour; minute = p .minute; second = p .second; zone = p .zone; over = p .over; counted = p .counted; dated = p .dated; timed = p .timed; raw = p .raw; failed = p .failed; subsec = p .subsec; utc = p .utc; local = p .local }
+
+abbrev pub setDated : Moment → Bool → Moment
+setDated p b = record { ms = p .ms; year = p .year; month = p .month; day = p .day; hour = p .hour; minute = p .minute; second = p .second; zone = p .zone; over = p .over; counted = p .counted; dated = b; timed = p .timed; raw = p .raw; failed = p .failed; subsec = p .subsec; utc = p .utc; local = p .local }
+
+abbrev pub setTime : Moment → ℕ → ℕ → Float → Moment
+setTime p h m s = record { ms = p .ms; year = p .year; month = p .month; day = p .day; hour = h; minute = m; second = s; zone = p .zone; over = p .over; counted = p .counted; dated = p .dated; timed = p .timed; raw = p .raw; failed = p .failed; subsec = p .subsec; utc = p .utc; local = p .local }
+
+abbrev pub setTimed : Moment → Bool → Moment
+setTimed p b = record { ms = p .ms; year = p .year; month = p .month; day = p .day; hour = p .hour; minute = p .minute; second = p .second; zone = p .zone; over = p .over; counted = p .counted; dated = p .dated; timed = b; raw = p .raw; failed = p .failed; subsec = p .subsec; utc = p .utc; local = p .local }
+
+abbrev pub setZone : Moment → ℕ → Moment
+setZone p z = record { ms = p .ms; year = p .year; month = p .month; day = p .day; hour = p .hour; minute = p .minute; second = p .second; zone = z; over = p .over; counted = p .counted; dated = p .dated; timed = p .timed; raw = p .raw; failed = p .failed; subsec = p .subsec; utc = p .utc; local = p .local }
+
+abbrev pub setOver : Moment → ℕ → Moment
+setOver p k = record { ms = p .ms; year = p .year; month = p .month; day = p .day; hour = p .hour; minute = p .minute; second = p .second; zone = p .zone; over = k; counted = p .counted; dated = p .dated; timed = p .timed; raw = p .raw; failed = p .failed; subsec = p .subsec; utc = p .utc; local = p .local }
+
+abbrev pub setRaw : Moment → Bool → Moment
+setRaw p b = record { ms = p .ms; year = p .year; month = p .month; day = p .day; hour = p .hour; minute = p .minute; second = p .second; zone = p .zone; over = p .over; counted = p .counted; dated = p .dated; timed = p .timed; raw = b; failed = p .failed; subsec = p .subsec; utc = p .utc; local = p .local }
+
+abbrev pub setSubsec : Moment → Bool → Moment
+setSubsec p b = record { ms = p .ms; year = p .year; month = p .month; day = p .day; hour = p .hour; minute = p .minute; second = p .second; zone = p .zone; over = p .over; counted = p .counted; dated = p .dated; timed = p .timed; raw = p .raw; failed = p .failed; subsec = b; utc = p .utc; local = p .local }
+
+abbrev pub setUtc : Moment → Moment
+setUtc p = record { ms = p .ms; year = p .year; month = p .month; day = p .day; hour = p .hour; minute = p .minute; second = p .second; zone = p .zone; over = p .over; counted = p .counted; dated = p .dated; timed = p .timed; raw = p .raw; failed = p .failed; subsec = p .subsec; utc = true; local = false }
+
+abbrev pub setLocal : Moment → Moment
+setLocal p = record { ms = p .ms; year = p .year; month = p .month; day = p .day; hour = p .hour; minute = p .minute; second = p .second; zone = p .zone; over = p .over; counted = p .counted; dated = p .dated; timed = p .timed; raw = p .raw; failed = p .failed; subsec = p .subsec; utc = false; local = true }
+
+-- ---- and some in a row
+
+-- the milliseconds are n, and stand
+abbrev pub counted : Moment → ℕ → Moment
+counted p n = setCounted (setMs p n) true
+
+-- the milliseconds moved by n times k
+abbrev pub moved : Moment → ℤ → ℕ → Moment
+moved p n k = setMs p (move (p .ms) n k)
+
+-- the fields no longer stand (the Rust's clear_ymd_hms_tz)
+abbrev pub clear : Moment → Moment
+clear p = setZone (setTimed (setDated p false) false) noZone
 
 -- ---- milliseconds from fields (the Rust's compute_jd)
 
