@@ -6,4 +6,3 @@ pub use Rattle.rules.specs.declared.Function.{Function}
 pub use Rattle.rules.specs.declared.Answer.{Answer}
 pub use Rattle.rules.specs.declared.Ymd.{Ymd}
 pub use Rattle.rules.specs.declared.Time.{Time}
-pub use Rattle.rules.specs.declared.Moment.{Moment}

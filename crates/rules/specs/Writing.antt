@@ -9,10 +9,10 @@ use lib.Ieee.{Float, binary64, ofInt, minus}
 use Rattle.rules.specs.Basics.{if_then_else_, ascii, is, trimEnd, Read, got, refuse, _>>=_}
 use Rattle.rules.specs.Floats.{number, _⊘_, whole, decimals, negative}
 use Rattle.rules.specs.Calendar.{year, instant, unixEpoch, sinceMonday, sinceSunday, thursday, isoWeek, dayOfYear, dayLength, midnight, timeOfDay, civil}
-use Rattle.rules.specs.Types.{Refusal, Moment, Ymd}
+use Rattle.rules.specs.Moments.{Moment}
+use Rattle.rules.specs.Types.{Refusal, Ymd}
 
 -- ---- digits
-
 -- the n lowest decimal places of v, the highest first
 unfoldable pub places : ℕ → ℕ → List ℕ
 places zero v = []
@@ -36,7 +36,6 @@ integerText (pos n) = wide 1 n
 integerText (negsuc n) = ascii "-" ++ wide 1 (suc n)
 
 -- ---- "Negative years as the Rust."
-
 -- four digits, or a minus and k of them: 4 in date and datetime, 3 in strftime, where the minus is one of four places
 unfoldable pub signedYear : ℕ → ℕ → List ℕ
 signedYear k y = if leb (year 0) y then wide 4 (y - year 0) else ascii "-" ++ wide k (year 0 - y)
@@ -64,7 +63,6 @@ unfoldable pub timeText : Moment → List ℕ
 timeText p = hourMinute p ++ ascii ":" ++ (if p .subsec then threeDecimals 2 (p .second) else secondText (p .second))
 
 -- ---- the time since the Unix epoch
-
 -- in milliseconds, and in seconds: "divided by 1000 and rounded by floor, so -500 ms is second -1"
 abbrev pub sinceEpoch : ℕ → ℤ
 sinceEpoch t = minus t unixEpoch
@@ -103,7 +101,6 @@ abbrev pub week : Moment → ℕ → ℕ
 week p w = (dayOfYear (p .year) (p .month) (p .day) + 7 - w) / 7
 
 -- ---- "Twenty-six letters and the percent sign are read after a `%`"
-
 -- the hour on a dial of twelve
 abbrev pub dial : ℕ → ℕ
 dial h = if eqb (h % 12) 0 then 12 else h % 12
@@ -166,7 +163,6 @@ formatted p (b ∷ c ∷ s) =
     if is "%" b then lettered else plain
 
 -- ---- timediff: "sign, four or more year digits. The sign is plus if A is not before B."
-
 -- the calendar month of a date, as a count of months
 abbrev pub monthOf : Ymd → ℕ
 monthOf c = c .year * 12 + (c .month - 1)

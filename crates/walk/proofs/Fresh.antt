@@ -15,10 +15,9 @@ use Rattle.rules.specs.Basics.{if_then_else_, ascii, is, word, beside, past, on
 use Rattle.rules.specs.Calendar.{year, minusYear, instant, last, dayLength, halfDay, leap, monthLengths, sum, years, beforeMonth, dayOfYear, daysTo, dayZero, start, midnight, timeOfDay, inRange, civil}
 use Rattle.rules.specs.Calls.{Value, absent, null, bytes, signed, float}
 use Rattle.rules.specs.Decimal.{decimal}
-use Rattle.rules.specs.Moments.{noZone, blank, failure, counted, setMs, setDate, setDated, setUtc, clear, timeMs, withTime, sumOf, countMs, onDate, fillDate, pastEnd}
+use Rattle.rules.specs.Moments.{Moment, noZone, blank, failure, counted, setMs, setDate, setDated, setUtc, clear, timeMs, withTime, sumOf, countMs, onDate, fillDate, pastEnd}
 use Rattle.rules.specs.Reading.{space, time, timed, timeAfter, settled, dateFrom, dateForm, timeForm, now, isJulian, rawNumber, numberForm, textValue, timeValue}
 use Rattle.rules.specs.Modifiers.{provided, orNull, first, words, starts, units, isAuto, auto, fromEpoch, isUnix, unix, ceiling, floor, localtime, utc, toWeekday, weekday, dayStart, startOf, byDate, dateStep, timeStep, timeOf, byLength, byMonths, unitStep, arithmetic, modifier, counts, wideSpace}
-use Rattle.rules.specs.declared.Moment.{Moment}
 use Rattle.rules.specs.declared.Time.{Time}
 use Rattle.rules.specs.declared.Refusal.{Refusal}
 
