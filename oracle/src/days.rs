@@ -4,7 +4,8 @@
 use crate::numeric::Numeric;
 use crate::raw;
 use crate::types::{TextRef, TextSubtype, Value, ValueRef};
-use std::fmt::Write;
+use std::fmt::Write as _;
+use std::io::{self, Write};
 
 /// 9999-12-31; the first, 0, is -4713-11-24.
 const LAST_DAY: i64 = 5373484;
@@ -35,10 +36,7 @@ fn text(t: &str) -> ValueRef<'_> {
 
 /// Year, month, day, weekday, day of year, ISO year, ISO week.
 fn fields(day: i64) -> [i64; 7] {
-    let asked = [
-        text("%Y %m %d %w %j %G %V"),
-        ValueRef::Numeric(Numeric::Integer(day)),
-    ];
+    let asked = [text("%Y %m %d %w %j %G %V"), ValueRef::Numeric(Numeric::Integer(day))];
     let Value::Text(answer) = raw::exec_strftime(asked) else {
         panic!("day {day}: strftime gives no text");
     };
@@ -59,7 +57,7 @@ fn found_back(year: i64, month: i64, day: i64, buffer: &mut String) -> i64 {
     found as i64
 }
 
-pub fn run() {
+pub fn run(mut output: impl Write) -> io::Result<()> {
     let mut digests = Digests::default();
     let mut first_year = group(-4713);
     let mut days = 0;
@@ -67,7 +65,7 @@ pub fn run() {
     for n in 0..=LAST_DAY {
         let [year, month, day, weekday, day_of_year, iso_year, iso_week] = fields(n);
         if group(year) != first_year {
-            println!("{first_year} {days} {} {}", digests.a, digests.b);
+            writeln!(output, "{first_year} {days} {} {}", digests.a, digests.b)?;
             digests = Digests::default();
             first_year = group(year);
             days = 0;
@@ -75,18 +73,10 @@ pub fn run() {
         let back = found_back(year, month, day, &mut buffer);
         assert_eq!(back, n, "{buffer}: another day found back");
         days += 1;
-        for x in [
-            year + 4800,
-            month,
-            day,
-            weekday,
-            day_of_year,
-            iso_year + 4800,
-            iso_week,
-            back,
-        ] {
+        for x in [year + 4800, month, day, weekday, day_of_year, iso_year + 4800, iso_week, back] {
             digests.take(x);
         }
     }
-    println!("{first_year} {days} {} {}", digests.a, digests.b);
+    writeln!(output, "{first_year} {days} {} {}", digests.a, digests.b)?;
+    output.flush()
 }
