@@ -10,7 +10,7 @@ mod stamps;
 mod values;
 
 use format::format;
-use modifiers::{chain, limited_units, modifier, small_number};
+use modifiers::{across, chain, from_before, limited_units, modifier, small_number};
 use numbers::{julian_day, spaced_number, tie, unix_seconds};
 use random::Random;
 use stamps::Stamp;
@@ -87,10 +87,10 @@ fn value_line(r: &mut Random, out: &mut Vec<u8>) {
 /// A plain time value and a chain of modifiers.
 fn modifiers_line(r: &mut Random, out: &mut Vec<u8>) {
     head(r, out);
-    if r.one_in(6) {
-        time_value(r, out);
-    } else {
-        plain_value(r, out);
+    match r.below(36) {
+        0 => return from_before(r, out),
+        1..=6 => time_value(r, out),
+        _ => plain_value(r, out),
     }
     for _ in 0..chain(r) {
         out.push(b'\t');
@@ -137,7 +137,7 @@ fn timediff_line(r: &mut Random, out: &mut Vec<u8>) {
 /// Numbers at every limit: as time value, before a unit, after `weekday `.
 fn numbers_line(r: &mut Random, out: &mut Vec<u8>) {
     head(r, out);
-    match r.weighed(&[20, 20, 20, 15, 10, 10, 5]) {
+    match r.weighed(&[20, 20, 15, 5, 5, 15, 10, 10]) {
         0 => julian_day(r, out),
         1 => {
             unix_seconds(r, out);
@@ -149,12 +149,19 @@ fn numbers_line(r: &mut Random, out: &mut Vec<u8>) {
             out.push(b'\t');
             limited_units(r, out);
         }
-        3 => {
+        3 => across(r, out),
+        4 => {
+            plain_value(r, out);
+            out.push(b'\t');
+            spaced_number(r, out);
+            write!(out, " {}", r.pick(&["days", "hours", "seconds", "months"])).unwrap();
+        }
+        5 => {
             spaced_number(r, out);
             out.push(b'\t');
             word(r, &["auto", "unixepoch", "julianday", "subsec"], out);
         }
-        4 => {
+        6 => {
             plain_value(r, out);
             out.extend(b"\tweekday ");
             if r.one_in(3) {
@@ -163,8 +170,7 @@ fn numbers_line(r: &mut Random, out: &mut Vec<u8>) {
                 small_number(r, out);
             }
         }
-        5 => tie(r, out),
-        _ => spaced_number(r, out),
+        _ => tie(r, out),
     }
     if r.one_in(8) {
         out.extend(b"\t-1 second");

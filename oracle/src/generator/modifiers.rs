@@ -1,9 +1,9 @@
 //! Modifiers, single ones and chains.
 
 use super::edges::MODIFIERS;
-use super::numbers::{near_number, spaced_number};
+use super::numbers::near_number;
 use super::random::Random;
-use super::values::{blank, fraction, good_time, word, zone};
+use super::values::{blank, fraction, good_time, month_day, word, write_date, zone};
 use std::io::Write;
 
 /// How many modifiers: mostly few, up to one past the sixteen.
@@ -134,38 +134,51 @@ pub fn units(r: &mut Random, out: &mut Vec<u8>) {
     }
 }
 
-/// A unit with a number at its limit; then as much back.
+/// A unit with a number at its limit, and mostly as much back.
 pub fn limited_units(r: &mut Random, out: &mut Vec<u8>) {
     let unit = r.below(6);
     let limit = [5373485.0, 1.2897e11, 7.7379e12, 4.6427e14, 176546.0, 14713.0][unit];
-    let mut sign = r.pick(&["+", "-", ""]);
-    match r.below(3) {
-        0 => {
-            out.extend(sign.bytes());
-            near_number(r, limit, out);
-        }
-        1 => {
-            // The length of the range and so.
-            let length =
-                [5373484.5, 128963628.0, 7737817680.0, 464269060800.0, 176545.0, 14712.0][unit];
-            out.extend(sign.bytes());
-            near_number(r, length, out);
-        }
-        _ => {
-            let start = out.len();
-            spaced_number(r, out);
-            if out.len() == start {
-                out.push(b'1');
-            }
-        }
-    }
+    let (there, back) = r.pick(&[("+", "-"), ("-", "+"), ("", "-")]);
+    out.extend(there.bytes());
+    near_number(r, limit, out);
     write!(out, " {}s", UNITS[unit]).unwrap();
-    if r.one_in(2) {
-        // Mostly brings the value back into the range.
-        let days = [5373484, 5373484, 5373484, 5373484, 5373400, 5373400][unit];
-        sign = if sign == "-" { "+" } else { "-" };
-        write!(out, "\t{sign}{} days", r.between(days - 2000000, days)).unwrap();
+    if !r.one_in(5) {
+        write!(out, "\t{back}{} {}s", limit as i64 - r.between(1, 3), UNITS[unit]).unwrap();
     }
+}
+
+/// A time value at one end of the range, and a unit that leads to the other.
+pub fn across(r: &mut Random, out: &mut Vec<u8>) {
+    let unit = r.below(6);
+    let length = [5373484.5, 128963628.0, 7737817680.0, 464269060800.0, 176545.0, 14712.0][unit];
+    if r.one_in(2) {
+        out.extend(r.pick(&["0", "-4713-11-24 12:00", "-4713-11-24 12:00:00.001"]).bytes());
+        out.extend(b"\t+");
+    } else {
+        out.extend(r.pick(&["9999-12-31 23:59:59.999", "9999-12-31", "9999-12-31 24:00"]).bytes());
+        out.extend(b"\t-");
+    }
+    near_number(r, length, out);
+    write!(out, " {}s", UNITS[unit]).unwrap();
+}
+
+/// A time value before the range, and modifiers that lead into it.
+pub fn from_before(r: &mut Random, out: &mut Vec<u8>) {
+    let year = r.pick(&[-4713, -4713, -4713, -4713, -4714, -5000, -9999]);
+    let (month, day) = month_day(r);
+    write_date(year, month, day, out);
+    if !r.one_in(3) {
+        out.push(b' ');
+        good_time(r, out);
+    }
+    if year < -4713 {
+        write!(out, "\t+{} years", -year - r.between(0, 4713)).unwrap();
+    }
+    for _ in 0..r.between(0, 2) {
+        out.push(b'\t');
+        modifier(r, out);
+    }
+    write!(out, "\t+{} {}", r.between(1, 400), r.pick(&["days", "months", "years"])).unwrap();
 }
 
 pub fn near_miss(r: &mut Random, out: &mut Vec<u8>) {

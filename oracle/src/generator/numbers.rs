@@ -39,7 +39,7 @@ pub fn unix_seconds(r: &mut Random, out: &mut Vec<u8>) {
 /// A number at a limit, or one step to its side: a unit of the last place of
 /// the f64, or of the last digit written.
 pub fn near_number(r: &mut Random, limit: f64, out: &mut Vec<u8>) {
-    match r.below(5) {
+    match r.below(6) {
         0 => write!(out, "{limit}").unwrap(),
         1 | 2 => {
             let steps = r.between(-3, 3);
@@ -64,35 +64,47 @@ pub fn near_number(r: &mut Random, limit: f64, out: &mut Vec<u8>) {
                 out.pop();
                 out.push(r.pick(b"0123456789"));
             }
-            if out.last() == Some(&b'.') {
-                out.push(b'5');
-            }
         }
+        4 => halfway(r, limit, out),
         _ => write!(out, "{}", limit + r.pick(&[-1.0, -0.5, -0.001, 0.001, 0.5, 1.0])).unwrap(),
     }
 }
 
-/// A Julian day whose nine decimals, or whose milliseconds, end in a half; or a
-/// whole number halfway between two f64.
+/// A Julian day whose nine decimals, or whose milliseconds, end in a half, or
+/// that lies between two f64.
 pub fn tie(r: &mut Random, out: &mut Vec<u8>) {
-    match r.below(5) {
-        0..=2 => {
+    let day = r.between(0, 5373483);
+    match r.below(3) {
+        0 => {
             // j/1024, j odd, has ten decimals, the last a five.
             let fraction = (2 * r.between(0, 511) + 1) * 9765625;
-            write!(out, "{}.{fraction:010}", r.between(1000000, 5373483)).unwrap();
+            write!(out, "{day}.{fraction:010}").unwrap();
         }
-        3 => {
+        1 => {
             let half_ms = 2 * r.between(0, 86399999) + 1;
-            let near = r.between(0, 5373483) as f64 + half_ms as f64 / 172800000.0;
-            write!(out, "{near}").unwrap();
+            write!(out, "{}", day as f64 + half_ms as f64 / 172800000.0).unwrap();
         }
         _ => {
-            let bits = r.between(54, 60);
-            let odd = (1i64 << (bits - 1)) + ((2 * r.between(0, 1000) + 1) << (bits - 54));
-            write!(out, "{}{odd}", r.pick(&["", "-"])).unwrap();
-            write!(out, "e-{}", r.pick(&[12, 11, 13, 6])).unwrap();
+            let fraction = r.below(1 << 30) as f64 / (1 << 30) as f64;
+            halfway(r, day.max(1) as f64 + fraction, out);
         }
     }
+}
+
+/// The middle between a number from 1 to 2^52 and the next f64 on either side,
+/// cut to 19 digits, so that it reads as the lower one, or one digit more.
+pub fn halfway(r: &mut Random, number: f64, out: &mut Vec<u8>) {
+    let lower = f64::from_bits(number.abs().to_bits() - r.next() % 2);
+    let bits = lower.to_bits();
+    // lower = odd / 2^scale - half a unit: the middle is odd / 2^scale.
+    let odd = u128::from(2 * (bits % (1 << 52) + (1 << 52)) + 1);
+    let scale = 1023 + 53 - (bits >> 52);
+    let whole = (odd >> scale).to_string();
+    let places = 19 - whole.len() as u32;
+    let digits = (odd * 10u128.pow(places) >> scale) + u128::from(r.next() % 2);
+    let digits = digits.to_string();
+    let sign = if number < 0.0 { "-" } else { "" };
+    write!(out, "{sign}{}.{}", &digits[..whole.len()], &digits[whole.len()..]).unwrap();
 }
 
 /// Any decimal, now and then with blanks around it.
@@ -158,5 +170,21 @@ pub fn number(r: &mut Random, out: &mut Vec<u8>) {
 pub fn digits(r: &mut Random, count: i64, out: &mut Vec<u8>) {
     for i in 0..count {
         out.push(if i == 0 { r.pick(b"123456789") } else { r.pick(b"0123456789") });
+    }
+}
+
+#[cfg(test)]
+#[test]
+fn halfway_reads_as_a_neighbour() {
+    let mut r = Random::new(1);
+    for number in [1.5, 2460000.25, 5373484.5, -210866760000.0, 1.2897e11, 4.6427e14] {
+        for _ in 0..20 {
+            let mut out = Vec::new();
+            halfway(&mut r, number, &mut out);
+            let text = String::from_utf8(out).unwrap();
+            assert_eq!(text.bytes().filter(u8::is_ascii_digit).count(), 19, "{text}");
+            let read: f64 = text.parse().unwrap();
+            assert!((read.to_bits() as i64 - number.to_bits() as i64).abs() <= 1, "{text}");
+        }
     }
 }

@@ -11,7 +11,7 @@ pub fn time_value(r: &mut Random, out: &mut Vec<u8>) {
     match r.weighed(&[40, 20, 8, 5, 12, 2, 8, 3, 2]) {
         0 => {
             date(r, out);
-            between(r, out);
+            separator(r, out);
             time(r, out);
             zone(r, out);
         }
@@ -120,7 +120,7 @@ pub fn month_day(r: &mut Random) -> (i64, i64) {
 }
 
 /// What stands between date and time.
-pub fn between(r: &mut Random, out: &mut Vec<u8>) {
+pub fn separator(r: &mut Random, out: &mut Vec<u8>) {
     match r.weighed(&[70, 20, 9, 1]) {
         0 => out.push(b' '),
         1 => out.push(b'T'),
