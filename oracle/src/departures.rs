@@ -26,13 +26,14 @@ pub fn run(input: impl BufRead) -> io::Result<bool> {
         let raw = answer(Reading::Raw, line);
         let ruled = answer(Reading::Ruled(limits::ALL), line);
         if raw == ruled {
-            return;
+            return Ok(());
         }
         let count = counts.entry(name(line, &raw, &ruled)).or_default();
         count.lines += 1;
         if count.examples.len() < EXAMPLES {
             count.examples.push(example(line, &raw, &ruled));
         }
+        Ok(())
     })?;
     if !good {
         println!("departures: no good first line");

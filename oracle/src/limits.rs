@@ -88,8 +88,10 @@ pub fn decimal(text: &str) -> Result<f64, ()> {
 /// without leading zeros, has at most 19, and the last digit's power of ten is
 /// -22 to 22. D = 0 always fits, and so do inf, infinity and nan.
 fn fits(text: &[u8]) -> bool {
-    let text = text.strip_prefix(b"-").unwrap_or(text);
-    let text = text.strip_prefix(b"+").unwrap_or(text);
+    let text = match text {
+        [b'+' | b'-', unsigned @ ..] => unsigned,
+        _ => text,
+    };
     if text[0].is_ascii_alphabetic() {
         return true;
     }

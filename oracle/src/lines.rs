@@ -63,7 +63,10 @@ macro_rules! call {
 
 /// Reads the setting, then hands over each line without its newline. False if
 /// there is no good first line: then there are no others.
-pub fn each(mut input: impl BufRead, mut f: impl FnMut(&[u8])) -> io::Result<bool> {
+pub fn each(
+    mut input: impl BufRead,
+    mut f: impl FnMut(&[u8]) -> io::Result<()>,
+) -> io::Result<bool> {
     let mut line = Vec::new();
     if !next(&mut input, &mut line)? {
         return Ok(false);
@@ -73,7 +76,7 @@ pub fn each(mut input: impl BufRead, mut f: impl FnMut(&[u8])) -> io::Result<boo
         None => return Ok(false),
     }
     while next(&mut input, &mut line)? {
-        f(&line);
+        f(&line)?;
     }
     Ok(true)
 }
@@ -81,16 +84,12 @@ pub fn each(mut input: impl BufRead, mut f: impl FnMut(&[u8])) -> io::Result<boo
 /// The whole run of the program.
 pub fn run(reading: Reading, input: impl BufRead, mut output: impl Write) -> io::Result<()> {
     let mut text = Vec::new();
-    let mut written = Ok(());
     let good = each(input, |line| {
         text.clear();
         answer(reading, line, &mut text);
         text.push(b'\n');
-        if written.is_ok() {
-            written = output.write_all(&text);
-        }
+        output.write_all(&text)
     })?;
-    written?;
     if !good {
         output.write_all(b"refused 4\n")?;
     }

@@ -29,14 +29,14 @@ use std::io::{self, BufReader, BufWriter};
 use std::process::ExitCode;
 
 const USAGE: &str = "\
-oracle raw < LINES                 the Rust as it is
-oracle ruled [-DEPARTURE].. < LINES  01; a minus switches a departure off:
-                                   round, range, renew, decimal, early
-oracle departures < LINES          where the two differ, by name
-oracle generate N SEED [THEME]     lines: value, modifiers, strftime, timediff,
-                                   numbers, damage; or all mixed
-oracle days                        digests of the calendar
-oracle readings LIST               calls with the documents' answers";
+oracle raw < LINES                   the Rust as it is
+oracle ruled [-DEPARTURE].. < LINES  01; a minus switches a departure off: round,
+                                     range, renew, decimal, early
+oracle departures < LINES            where the two differ, by name
+oracle generate N SEED [THEME]       lines of one theme or of all: value, modifiers,
+                                     strftime, timediff, numbers, damage
+oracle days                          digests of the calendar
+oracle readings LIST                 calls with the documents' answers";
 
 const BUFFER: usize = 1 << 16;
 
@@ -56,7 +56,10 @@ fn main() -> ExitCode {
             let (Ok(count), Ok(seed)) = (count.parse(), seed.parse()) else {
                 return usage();
             };
-            generator::run(count, seed, theme.first().copied(), output)
+            match generator::run(count, seed, theme.first().copied(), output) {
+                Ok(false) => return usage(),
+                written => written,
+            }
         }
         ["days"] => days::run(output).map(|()| true),
         ["readings", list] => Ok(readings::run(list)),
