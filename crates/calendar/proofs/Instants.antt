@@ -1,10 +1,9 @@
 -- From milliseconds to dates and back. Assumes nothing.
 use mathlib.Core.Path.{_≡_, refl}
-use Prim.Native.Nat.{ℕ, suc, _+_, _-_, _*_, _/_, _%_, _≤_, _<_}
+use Prim.Native.Nat.{ℕ, suc, _+_, _≤_, _<_}
 use native.Mathlib.Omega.{arith}
-use Rattle.rules.specs.Calendar.{year, minusYear, instant, last, dayLength, leap, monthLengths, yearLength, sum, years, beforeMonth, dayOfYear, daysTo, Exists, dayZero, start, midnight, dayOf, timeOfDay, civil}
-use Rattle.rules.specs.declared.Ymd.{Ymd}
-use Rattle.calendar.specs.Ranges.{InRange}
+use Rattle.rules.specs.Calendar.{year, minusYear, instant, last, dayLength, leap, monthLengths, sum, years, beforeMonth, dayOfYear, daysTo, Exists, dayZero, start, midnight, dayOf, timeOfDay, civil}
+use Rattle.calendar.specs.Ranges.{lastDay}
 use Rattle.calendar.proofs.Counting.{DateOf, only}
 use Rattle.calendar.proofs.Dates.{date}
 
@@ -22,7 +21,7 @@ pub day-low : (t : ℕ) → instant 0 ≤ t → dayZero ≤ dayOf t
 unfolding dayOf
 day-low t h = rw (day-zero, start-is) (omega arith)
 
-pub day-high : (t : ℕ) → t ≤ last → dayOf t ≤ 5373811
+pub day-high : (t : ℕ) → t ≤ last → dayOf t ≤ lastDay
 unfolding dayOf
 day-high t h = rw start-is (omega arith)
 

@@ -1,15 +1,14 @@
 -- A month as one number, y * 12 + (m - 1): the days before it rise by its length. Assumes nothing.
-use mathlib.Core.Path.{_≡_, refl}
-use mathlib.Core.Bool.{Bool, true, false}
+use mathlib.Core.Path.{_≡_, refl, _∙_}
 use mathlib.Core.List.{List, [], _∷_}
 use Prim.Native.Nat.{ℕ, zero, suc, _+_, _-_, _*_, _/_, _%_, _≤_, _<_}
 use native.Mathlib.Omega.{arith}
 use native.Mathlib.Decide.{decLt}
 use native.Mathlib.Numerals.{add-one}
-use lib.ListN.{getD, take, length}
-use Rattle.rules.specs.Basics.{if_then_else_}
-use Rattle.rules.specs.Calendar.{minusYear, leap, leapRow, commonRow, sum, years, yearLength, monthLengths, monthLength, beforeMonth, dayOfYear, daysTo}
-use Rattle.calendar.proofs.Years.{twelve, month-low, month-high, next-year}
+use lib.Dec.{eqb, eqb→eq}
+use lib.ListN.{getD, take}
+use Rattle.rules.specs.Calendar.{minusYear, sum, yearLength, monthLengths, monthLength, beforeMonth, dayOfYear, daysTo}
+use Rattle.calendar.proofs.Years.{by-row, twelve, month-low, month-high, next-year}
 
 -- ---- the next month
 
@@ -21,14 +20,10 @@ take-one [] (suc k) = refl
 take-one (l ∷ ls) zero = omega arith
 take-one (l ∷ ls) (suc k) = omega (arith, take-one ls k)
 
--- all twelve
+-- all twelve entries
 take-twelve : (y : ℕ) → sum (take 12 (monthLengths y)) ≡ yearLength y
-unfolding monthLengths yearLength sum
-take-twelve y = go (leap y)
-  where
-    go : (b : Bool) → sum (take 12 (if b then leapRow else commonRow)) ≡ (if b then 366 else 365)
-    go true = refl
-    go false = refl
+unfolding sum
+take-twelve y = eqb→eq _ _ (by-row 1 (λ ls k. eqb (sum (take 12 ls)) (sum ls)) tt tt y 0 (omega arith)) ∙ twelve y
 
 -- the days to the next month, and from December to the next year
 next-month : (y m d : ℕ) → 1 ≤ m → daysTo y (m + 1) d ≡ daysTo y m d + monthLength y m

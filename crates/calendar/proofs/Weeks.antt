@@ -1,14 +1,13 @@
 -- The days of the week, and the ISO week. Assumes nothing.
-use mathlib.Core.Path.{_≡_, refl, sym, _∙_, ap}
+use mathlib.Core.Path.{_≡_, refl, sym}
 use mathlib.Core.Bool.{Bool, true, false}
-use Prim.Native.Nat.{ℕ, zero, suc, _+_, _-_, _*_, _/_, _%_, _≤_, _<_}
+use Prim.Native.Nat.{ℕ, zero, suc, _+_, _-_, _*_, _/_, _%_, _≤_}
 use native.Mathlib.Omega.{arith}
 use lib.Dec.{eqb}
 use borrow.Author.Tests.{eqb-true, eqb-false}
 use Rattle.rules.specs.Basics.{if_then_else_}
-use Rattle.rules.specs.Calendar.{instant, last, dayLength, yearLength, dayOfYear, daysTo, dateAfter, dayZero, start, midnight, dayOf, sinceMonday, sinceSunday, thursday, isoWeek}
-use Rattle.rules.specs.declared.Ymd.{Ymd}
-use Rattle.calendar.specs.Ranges.{InRange}
+use Rattle.rules.specs.Calendar.{instant, dayLength, dayZero, midnight, dayOf, sinceMonday, sinceSunday, thursday, isoWeek}
+use Rattle.calendar.specs.Ranges.{lastDay, InRange}
 use Rattle.calendar.proofs.Years.{leap-le, year-length, in-year}
 use Rattle.calendar.proofs.Counting.{DateOf, month-day}
 use Rattle.calendar.proofs.Dates.{date}
@@ -56,7 +55,7 @@ unfolding sinceSunday sinceMonday
 sunday t = omega arith
 
 -- 9999-12-31 is a Friday, so that its Thursday is within the count
-pub thursday-high : (t : ℕ) → InRange t → dayOf t + 3 - sinceMonday t ≤ 5373811
+pub thursday-high : (t : ℕ) → InRange t → dayOf t + 3 - sinceMonday t ≤ lastDay
 unfolding sinceMonday
 thursday-high t h = rw day-zero (omega (arith, day-high t (h .to), rw day-zero at (day-low t (h .from))))
 

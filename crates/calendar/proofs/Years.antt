@@ -9,7 +9,7 @@ use lib.ListN.{getD, take}
 use borrow.Author.Tests.{eqb-true, eqb-false}
 use Rattle.rules.specs.Basics.{if_then_else_}
 use Rattle.rules.specs.Calendar.{year, minusYear, leap, leapRow, commonRow, monthLengths, monthLength, yearLength, sum, years, beforeMonth, dayOfYear, daysTo}
-use Rattle.calendar.specs.Ranges.{MonthDay, Countable}
+use Rattle.calendar.specs.Ranges.{lastDay, MonthDay, Countable}
 use Rattle.calendar.proofs.Below.{all, below}
 
 -- the days that the leap rule adds to a year
@@ -126,6 +126,6 @@ years-high : (y : ℕ) → minusYear 4713 ≤ y → y ≤ year 9999 → years (s
 years-high y l h = omega (arith, closed y (omega arith))
 
 -- no day is counted past 9999-12-31
-pub days-high : (y m d : ℕ) → Countable y m d → daysTo y m d ≤ 5373811
+pub days-high : (y m d : ℕ) → Countable y m d → daysTo y m d ≤ lastDay
 unfolding daysTo
 days-high y m d h = omega (arith, in-year y m d (h .fields), next-year y (h .year-low), years-high y (h .year-low) (h .year-high))
