@@ -60,6 +60,7 @@ pub record March (n y x : ℕ) : Type 0 where
 sum-of : (n c b z x Y c4 z4 y4 y1 y400 : ℕ) → n + 31717 ≡ 36524 * c + c4 + b → b ≡ 365 * z + z4 + x → y4 ≡ 8800 + 25 * c + z4 → y1 ≡ 352 + c → y400 ≡ 88 + c4 → Y + y1 + 12888312 ≡ 365 * suc (35200 + 100 * c + z) + y4 + y400 → n + 306 ≡ Y + x
 sum-of n c b z x Y c4 z4 y4 y1 y400 p q r s t u = omega arith
 
+-- what the two divisions find
 pub march : (n c b z x : ℕ) → n ≤ lastDay → c ≡ (4 * (n + 31717) + 3) / 146097 → b ≡ (4 * (n + 31717) + 3) % 146097 / 4 → z ≡ (4 * b + 3) / 1461 → x ≡ (4 * b + 3) % 1461 / 4 → March n (35200 + 100 * c + z) x
 march n c b z x l p q r s =
     let u = century (n + 31717) c b p q in
@@ -123,6 +124,7 @@ before-10000 n y x h l k = go (decLt y 49999)
         let e : suc y ≡ 50000 = omega (arith, i, h .high) in
         omega (arith, rw e at (h .sum), all-years)
 
+-- March to December are months of the same year
 pub spring : (n y x : ℕ) → March n y x → month x < 10 → DateOf n y (month x + 3) (rest x + 1)
 unfolding daysTo dayOfYear beforeMonth monthLength
 spring n y x h l =
@@ -137,6 +139,7 @@ spring n y x h l =
       high = h .high;
     }
 
+-- January and February are the next year's
 january : (n y x : ℕ) → March n y (x + 306) → n ≤ lastDay → 10 ≤ month (x + 306) → DateOf n (suc y) (month (x + 306) - 9) (rest (x + 306) + 1)
 unfolding daysTo dayOfYear beforeMonth monthLength
 january n y x h u l =

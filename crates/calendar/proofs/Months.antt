@@ -8,6 +8,7 @@ use native.Mathlib.Numerals.{add-one}
 use lib.Dec.{eqb, eqb→eq}
 use lib.ListN.{getD, take}
 use Rattle.rules.specs.Calendar.{minusYear, sum, yearLength, monthLengths, monthLength, beforeMonth, dayOfYear, daysTo}
+use Rattle.calendar.proofs.Counting.{DateOf}
 use Rattle.calendar.proofs.Years.{by-row, twelve, month-low, month-high, next-year}
 
 -- ---- the next month
@@ -54,6 +55,7 @@ len k = monthLength (k / 12) (k % 12 + 1)
 unfoldable pub first : ℕ → ℕ
 first k = daysTo (k / 12) (k % 12 + 1) 1
 
+-- it is 28 to 31 days long
 pub len-low : (k : ℕ) → 28 ≤ len k
 unfolding len
 len-low k = month-low (k / 12) (k % 12 + 1) (omega arith) (omega arith)
@@ -75,10 +77,16 @@ pub of-length : (y m : ℕ) → 1 ≤ m → m ≤ 12 → monthLength y m ≡ len
 unfolding len
 of-length y m l h = let e = number y m l h in rw (e .0, e .1)
 
--- the day d of the month k
+-- the day d of the month k, by its number
 pub in-month : (k d : ℕ) → daysTo (k / 12) (k % 12 + 1) d ≡ first k + (d - 1)
 unfolding first daysTo dayOfYear
 in-month k d = omega arith
+
+-- a day lies in its date's month
+pub of-day : (n y m d : ℕ) → DateOf n y m d → (first (y * 12 + (m - 1)) ≤ n) × (n < first (y * 12 + (m - 1)) + len (y * 12 + (m - 1)))
+of-day n y m d h =
+    let D = h .exists in
+    omega (arith, h .counted, of-date y m d (D .month-low) (D .month-high), of-length y m (D .month-low) (D .month-high))
 
 -- the next month begins where this one ends, from -4713 on
 pub first-next : (k : ℕ) → minusYear 4713 * 12 ≤ k → first (suc k) ≡ first k + len k

@@ -3,7 +3,6 @@
 //
 // The file stdout, to which the output must be equal, was not written by this program. It holds what the Rust gives for the same days
 // (`oracle days` in oracle/): if the two are equal, both calendars agree on every day.
-ghost use mathlib.Core.Path.{_≡_};
 ghost use Prim.Native.Nat.{_≤_, _<_};
 ghost use Rattle.calendar.specs.Ranges.{InRange};
 ghost use Rattle.days.specs.Reduced.{Reduced};
@@ -53,6 +52,7 @@ fn noon(day: u32) -> u64
     NOON + day as u64 * 86400000
 }
 
+// The year of a day, as held.
 fn year_of(day: u32) -> u32
     requires { ⌜ day ≤ 5373484 ⌝ }
 {
@@ -121,6 +121,7 @@ fn walked(first: u32) -> Found
     Found { digests, next }
 }
 
+// A year as people write it, with a minus before 0.
 fn print_year(year: u32) {
     if year < YEAR_0 {
         io::write_all(STDOUT_FILENO, b"-");
@@ -130,6 +131,7 @@ fn print_year(year: u32) {
     }
 }
 
+// A number after a space.
 fn print_next(n: u64) {
     io::write_all(STDOUT_FILENO, b" ");
     io::print_decimal(STDOUT_FILENO, n);
