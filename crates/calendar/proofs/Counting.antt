@@ -1,13 +1,12 @@
 -- Counting a date off gives the date back. Assumes nothing.
-use mathlib.Core.Path.{_≡_, refl, _∙_, ap, sym}
+use mathlib.Core.Path.{_≡_, refl, _∙_}
 use mathlib.Core.List.{List, [], _∷_}
-use Prim.Native.Nat.{ℕ, zero, suc, _+_, _-_, _*_, _/_, _%_, _≤_, _<_}
+use Prim.Native.Nat.{ℕ, zero, suc, _+_, _-_, _≤_, _<_}
 use native.Mathlib.Omega.{arith}
 use lib.ListN.{getD, take}
 use native.Mathlib.Nat.{zero-add, add-zero, sub-zero}
 use borrow.Author.Tests.{lt-ltb, le-ltb}
 use Rattle.rules.specs.Calendar.{year, minusYear, sum, years, yearLength, monthLengths, monthLength, Exists, beforeMonth, dayOfYear, daysTo, inMonths, inYears, dateAfter}
-use Rattle.rules.specs.declared.Ymd.{Ymd}
 use Rattle.calendar.specs.Ranges.{MonthDay, Countable}
 use Rattle.calendar.proofs.Years.{month-high, in-year}
 

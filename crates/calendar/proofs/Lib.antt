@@ -1,4 +1,4 @@
--- Laws of the calendar that rules defines. Below, March: what the proofs of the functions stand on. The rest is for whoever reckons with dates.
+-- Laws of the calendar that rules defines, for whoever reckons with dates. (Below and March are what other laws here stand on.)
 pub mod Below
 pub mod Years
 pub mod Counting

@@ -1,16 +1,13 @@
 -- The date of a day by quotients, in years that begin on 1 March: what `date_after` computes. Assumes nothing.
-use mathlib.Core.Path.{_≡_, refl, sym, _∙_, ap}
-use mathlib.Core.Bool.{Bool, true, false}
-use Prim.Native.Nat.{ℕ, zero, suc, _+_, _-_, _*_, _/_, _%_, _≤_, _<_}
+use mathlib.Core.Path.{_≡_, sym}
+use Prim.Native.Nat.{ℕ, suc, _+_, _-_, _*_, _/_, _%_, _≤_, _<_}
 use native.Mathlib.Omega.{arith}
 use native.Mathlib.Decide.{decLt}
 use native.Mathlib.Numerals.{add-one}
 use lib.Dec.{eqb, ltb, eqb→eq, ltb→lt}
-use mathlib.Core.List.{List}
 use lib.ListN.{getD, take}
-use Rattle.rules.specs.Basics.{if_then_else_}
-use Rattle.rules.specs.Calendar.{year, minusYear, leap, leapRow, commonRow, monthLengths, monthLength, yearLength, sum, years, beforeMonth, dayOfYear, daysTo, Exists}
-use Rattle.calendar.proofs.Below.{below}
+use Rattle.rules.specs.Calendar.{year, minusYear, monthLengths, monthLength, sum, years, beforeMonth, dayOfYear, daysTo}
+use Rattle.calendar.specs.Ranges.{lastDay}
 use Rattle.calendar.proofs.Counting.{DateOf}
 use Rattle.calendar.proofs.Years.{by-row, twelve, leapDay, leap-sum, leap-le, year-length, closed, next-year, all-years}
 
@@ -63,7 +60,8 @@ pub record March (n y x : ℕ) : Type 0 where
 sum-of : (n c b z x Y c4 z4 y4 y1 y400 : ℕ) → n + 31717 ≡ 36524 * c + c4 + b → b ≡ 365 * z + z4 + x → y4 ≡ 8800 + 25 * c + z4 → y1 ≡ 352 + c → y400 ≡ 88 + c4 → Y + y1 + 12888312 ≡ 365 * suc (35200 + 100 * c + z) + y4 + y400 → n + 306 ≡ Y + x
 sum-of n c b z x Y c4 z4 y4 y1 y400 p q r s t u = omega arith
 
-pub march : (n c b z x : ℕ) → n ≤ 5373811 → c ≡ (4 * (n + 31717) + 3) / 146097 → b ≡ (4 * (n + 31717) + 3) % 146097 / 4 → z ≡ (4 * b + 3) / 1461 → x ≡ (4 * b + 3) % 1461 / 4 → March n (35200 + 100 * c + z) x
+-- what the two divisions find
+pub march : (n c b z x : ℕ) → n ≤ lastDay → c ≡ (4 * (n + 31717) + 3) / 146097 → b ≡ (4 * (n + 31717) + 3) % 146097 / 4 → z ≡ (4 * b + 3) / 1461 → x ≡ (4 * b + 3) % 1461 / 4 → March n (35200 + 100 * c + z) x
 march n c b z x l p q r s =
     let u = century (n + 31717) c b p q in
     let v = year-of b z x r s in
@@ -117,7 +115,7 @@ from-4713 n y x h l = go (decLt y 35287)
     go (no k) = omega (arith, k)
 
 -- 9999 ends with the last day
-before-10000 : (n y x : ℕ) → March n y x → n ≤ 5373811 → 306 ≤ x → suc y ≤ year 9999
+before-10000 : (n y x : ℕ) → March n y x → n ≤ lastDay → 306 ≤ x → suc y ≤ year 9999
 before-10000 n y x h l k = go (decLt y 49999)
   where
     go : Dec (y < 49999) → suc y ≤ 49999
@@ -126,6 +124,7 @@ before-10000 n y x h l k = go (decLt y 49999)
         let e : suc y ≡ 50000 = omega (arith, i, h .high) in
         omega (arith, rw e at (h .sum), all-years)
 
+-- March to December are months of the same year
 pub spring : (n y x : ℕ) → March n y x → month x < 10 → DateOf n y (month x + 3) (rest x + 1)
 unfolding daysTo dayOfYear beforeMonth monthLength
 spring n y x h l =
@@ -140,7 +139,8 @@ spring n y x h l =
       high = h .high;
     }
 
-january : (n y x : ℕ) → March n y (x + 306) → n ≤ 5373811 → 10 ≤ month (x + 306) → DateOf n (suc y) (month (x + 306) - 9) (rest (x + 306) + 1)
+-- January and February are the next year's
+january : (n y x : ℕ) → March n y (x + 306) → n ≤ lastDay → 10 ≤ month (x + 306) → DateOf n (suc y) (month (x + 306) - 9) (rest (x + 306) + 1)
 unfolding daysTo dayOfYear beforeMonth monthLength
 january n y x h u l =
     let k : x < 60 = omega (arith, h .within, leap-le (suc y)) in
@@ -153,7 +153,7 @@ january n y x h u l =
       high = before-10000 n y (x + 306) h u (omega arith);
     }
 
-pub winter : (n y x : ℕ) → March n y x → n ≤ 5373811 → 10 ≤ month x → DateOf n (y + 1) (month x - 9) (rest x + 1)
+pub winter : (n y x : ℕ) → March n y x → n ≤ lastDay → 10 ≤ month x → DateOf n (y + 1) (month x - 9) (rest x + 1)
 winter n y x h u l =
     let e : x ≡ x - 306 + 306 = omega arith in
     let w : March n y (x - 306 + 306) = rw (sym e) h in

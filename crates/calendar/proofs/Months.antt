@@ -1,15 +1,15 @@
 -- A month as one number, y * 12 + (m - 1): the days before it rise by its length. Assumes nothing.
-use mathlib.Core.Path.{_≡_, refl}
-use mathlib.Core.Bool.{Bool, true, false}
+use mathlib.Core.Path.{_≡_, refl, _∙_}
 use mathlib.Core.List.{List, [], _∷_}
 use Prim.Native.Nat.{ℕ, zero, suc, _+_, _-_, _*_, _/_, _%_, _≤_, _<_}
 use native.Mathlib.Omega.{arith}
 use native.Mathlib.Decide.{decLt}
 use native.Mathlib.Numerals.{add-one}
-use lib.ListN.{getD, take, length}
-use Rattle.rules.specs.Basics.{if_then_else_}
-use Rattle.rules.specs.Calendar.{minusYear, leap, leapRow, commonRow, sum, years, yearLength, monthLengths, monthLength, beforeMonth, dayOfYear, daysTo}
-use Rattle.calendar.proofs.Years.{twelve, month-low, month-high, next-year}
+use lib.Dec.{eqb, eqb→eq}
+use lib.ListN.{getD, take}
+use Rattle.rules.specs.Calendar.{minusYear, sum, yearLength, monthLengths, monthLength, beforeMonth, dayOfYear, daysTo}
+use Rattle.calendar.proofs.Counting.{DateOf}
+use Rattle.calendar.proofs.Years.{by-row, twelve, month-low, month-high, next-year}
 
 -- ---- the next month
 
@@ -21,14 +21,10 @@ take-one [] (suc k) = refl
 take-one (l ∷ ls) zero = omega arith
 take-one (l ∷ ls) (suc k) = omega (arith, take-one ls k)
 
--- all twelve
+-- all twelve entries
 take-twelve : (y : ℕ) → sum (take 12 (monthLengths y)) ≡ yearLength y
-unfolding monthLengths yearLength sum
-take-twelve y = go (leap y)
-  where
-    go : (b : Bool) → sum (take 12 (if b then leapRow else commonRow)) ≡ (if b then 366 else 365)
-    go true = refl
-    go false = refl
+unfolding sum
+take-twelve y = eqb→eq _ _ (by-row 1 (λ ls k. eqb (sum (take 12 ls)) (sum ls)) tt tt y 0 (omega arith)) ∙ twelve y
 
 -- the days to the next month, and from December to the next year
 next-month : (y m d : ℕ) → 1 ≤ m → daysTo y (m + 1) d ≡ daysTo y m d + monthLength y m
@@ -59,6 +55,7 @@ len k = monthLength (k / 12) (k % 12 + 1)
 unfoldable pub first : ℕ → ℕ
 first k = daysTo (k / 12) (k % 12 + 1) 1
 
+-- it is 28 to 31 days long
 pub len-low : (k : ℕ) → 28 ≤ len k
 unfolding len
 len-low k = month-low (k / 12) (k % 12 + 1) (omega arith) (omega arith)
@@ -80,10 +77,16 @@ pub of-length : (y m : ℕ) → 1 ≤ m → m ≤ 12 → monthLength y m ≡ len
 unfolding len
 of-length y m l h = let e = number y m l h in rw (e .0, e .1)
 
--- the day d of the month k
+-- the day d of the month k, by its number
 pub in-month : (k d : ℕ) → daysTo (k / 12) (k % 12 + 1) d ≡ first k + (d - 1)
 unfolding first daysTo dayOfYear
 in-month k d = omega arith
+
+-- a day lies in its date's month
+pub of-day : (n y m d : ℕ) → DateOf n y m d → (first (y * 12 + (m - 1)) ≤ n) × (n < first (y * 12 + (m - 1)) + len (y * 12 + (m - 1)))
+of-day n y m d h =
+    let D = h .exists in
+    omega (arith, h .counted, of-date y m d (D .month-low) (D .month-high), of-length y m (D .month-low) (D .month-high))
 
 -- the next month begins where this one ends, from -4713 on
 pub first-next : (k : ℕ) → minusYear 4713 * 12 ≤ k → first (suc k) ≡ first k + len k

@@ -1,14 +1,13 @@
 -- The days of the week, and the ISO week. Assumes nothing.
-use mathlib.Core.Path.{_≡_, refl, sym, _∙_, ap}
+use mathlib.Core.Path.{_≡_, refl, sym}
 use mathlib.Core.Bool.{Bool, true, false}
-use Prim.Native.Nat.{ℕ, zero, suc, _+_, _-_, _*_, _/_, _%_, _≤_, _<_}
+use Prim.Native.Nat.{ℕ, zero, suc, _+_, _-_, _*_, _/_, _%_, _≤_}
 use native.Mathlib.Omega.{arith}
 use lib.Dec.{eqb}
 use borrow.Author.Tests.{eqb-true, eqb-false}
 use Rattle.rules.specs.Basics.{if_then_else_}
-use Rattle.rules.specs.Calendar.{instant, last, dayLength, yearLength, dayOfYear, daysTo, dateAfter, dayZero, start, midnight, dayOf, sinceMonday, sinceSunday, thursday, isoWeek}
-use Rattle.rules.specs.declared.Ymd.{Ymd}
-use Rattle.calendar.specs.Ranges.{InRange}
+use Rattle.rules.specs.Calendar.{instant, dayLength, dayZero, midnight, dayOf, sinceMonday, sinceSunday, thursday, isoWeek}
+use Rattle.calendar.specs.Ranges.{lastDay, InRange}
 use Rattle.calendar.proofs.Years.{leap-le, year-length, in-year}
 use Rattle.calendar.proofs.Counting.{DateOf, month-day}
 use Rattle.calendar.proofs.Dates.{date}
@@ -38,7 +37,6 @@ next-day t h =
     let f : suc (dayOf t) - dayZero ≡ suc (dayOf t - dayZero) = omega (arith, day-low t h) in
     rw (e, f) (next (dayOf t - dayZero))
 
--- whatever goes through the week so from that Monday on says what `sinceMonday` says
 counted : (w : ℕ → ℕ) → w dayZero ≡ 0 → ((n : ℕ) → dayZero ≤ n → w (suc n) ≡ tomorrow (w n)) → (k n : ℕ) → n ≡ dayZero + k → w n ≡ k % 7
 counted w z s zero n e =
     let f : n ≡ dayZero = omega arith in
@@ -47,20 +45,22 @@ counted w z s (suc k) n e =
     let f : n ≡ suc (dayZero + k) = omega arith in
     rw (f, s (dayZero + k) (omega arith), counted w z s k (dayZero + k) refl) (sym (next k))
 
+-- whatever goes through the week so, from that Monday on, is `sinceMonday`
 pub only-week : (w : ℕ → ℕ) → w dayZero ≡ 0 → ((n : ℕ) → dayZero ≤ n → w (suc n) ≡ tomorrow (w n)) → (t : ℕ) → instant 0 ≤ t → w (dayOf t) ≡ sinceMonday t
 unfolding sinceMonday
 only-week w z s t h = counted w z s (dayOf t - dayZero) (dayOf t) (omega (arith, day-low t h))
 
+-- Sunday comes a day before Monday
 pub sunday : (t : ℕ) → sinceSunday t ≡ (sinceMonday t + 1) % 7
 unfolding sinceSunday sinceMonday
 sunday t = omega arith
 
 -- 9999-12-31 is a Friday, so that its Thursday is within the count
-pub thursday-high : (t : ℕ) → InRange t → dayOf t + 3 - sinceMonday t ≤ 5373811
+pub thursday-high : (t : ℕ) → InRange t → dayOf t + 3 - sinceMonday t ≤ lastDay
 unfolding sinceMonday
 thursday-high t h = rw day-zero (omega (arith, day-high t (h .to), rw day-zero at (day-low t (h .from))))
 
--- the Thursday is the fourth day of the week that begins on the Monday before t
+-- the Thursday of t is the fourth day of the week that begins with the last Monday
 pub thursday-date : (t : ℕ) → InRange t → DateOf (dayOf t + 3 - sinceMonday t) (thursday t .year) (thursday t .month) (thursday t .day)
 unfolding thursday
 thursday-date t h = date (dayOf t + 3 - sinceMonday t) (thursday-high t h)

@@ -9,7 +9,7 @@ use lib.ListN.{getD, take}
 use borrow.Author.Tests.{eqb-true, eqb-false}
 use Rattle.rules.specs.Basics.{if_then_else_}
 use Rattle.rules.specs.Calendar.{year, minusYear, leap, leapRow, commonRow, monthLengths, monthLength, yearLength, sum, years, beforeMonth, dayOfYear, daysTo}
-use Rattle.calendar.specs.Ranges.{MonthDay, Countable}
+use Rattle.calendar.specs.Ranges.{lastDay, MonthDay, Countable}
 use Rattle.calendar.proofs.Below.{all, below}
 
 -- the days that the leap rule adds to a year
@@ -28,9 +28,11 @@ leap-sum y = go (eqb (y % 4) 0) (eqb (y % 100) 0) (eqb (y % 400) 0) refl refl re
     go true true false p q r = omega (arith, eqb-true (y % 4) 0 p, eqb-true (y % 100) 0 q, eqb-false (y % 400) 0 r)
     go true true true p q r = omega (arith, eqb-true (y % 100) 0 q, eqb-true (y % 400) 0 r)
 
+-- at most one day
 pub leap-le : (y : ℕ) → leapDay y ≤ 1
 leap-le y = omega (arith, leap-sum y)
 
+-- a year has 365 days and that one
 pub year-length : (y : ℕ) → yearLength y ≡ 365 + leapDay y
 unfolding yearLength
 year-length y = go (leap y)
@@ -79,6 +81,7 @@ pub before-high : (y m : ℕ) → 1 ≤ m → m ≤ 12 → beforeMonth y m + 31 
 unfolding beforeMonth sum
 before-high y m l h = rw (← twelve y) (leb→le _ _ (by-row 12 (λ ls k. leb (sum (take k ls) + 31) (sum ls)) tt tt y (m - 1) (omega arith)))
 
+-- so a day lies in its year, also past its month's end
 pub in-year : (y m d : ℕ) → MonthDay m d → dayOfYear y m d < yearLength y
 unfolding dayOfYear
 in-year y m d h = omega (arith, before-high y m (h .month-low) (h .month-high))
@@ -110,7 +113,7 @@ closed-from (suc n) p e =
 pub closed : (y : ℕ) → minusYear 4714 ≤ y → years (suc y - minusYear 4713) + y / 100 + 12888312 ≡ 365 * suc y + y / 4 + y / 400
 closed y h = closed-from (suc y - 35287) y (omega arith)
 
--- one year more
+-- the next year begins where this one ends
 pub next-year : (y : ℕ) → minusYear 4713 ≤ y → years (suc y - minusYear 4713) ≡ years (y - minusYear 4713) + yearLength y
 unfolding years
 next-year y h =
@@ -122,10 +125,11 @@ next-year y h =
 pub all-years : years (year 10000 - minusYear 4713) ≡ 5373812
 all-years = omega (arith, closed (year 9999) (omega arith))
 
+-- all of them end with 9999
 years-high : (y : ℕ) → minusYear 4713 ≤ y → y ≤ year 9999 → years (suc y - minusYear 4713) ≤ 5373812
 years-high y l h = omega (arith, closed y (omega arith))
 
 -- no day is counted past 9999-12-31
-pub days-high : (y m d : ℕ) → Countable y m d → daysTo y m d ≤ 5373811
+pub days-high : (y m d : ℕ) → Countable y m d → daysTo y m d ≤ lastDay
 unfolding daysTo
 days-high y m d h = omega (arith, in-year y m d (h .fields), next-year y (h .year-low), years-high y (h .year-low) (h .year-high))

@@ -4,11 +4,11 @@
 // day 0. -4713-11-24, whose noon is the millisecond 0, is the day 327, and 1970-01-01 the day 2440915. The last, 9999-12-31, is 5373811.
 //
 // How `date_after` finds a date. A year that begins on 1 March has its leap day, if any, at its end. So let n be the days since 1 March of
-// -4800, held as 35200, a multiple of 400: the day 0 is n = 31717. Count in quarters of a day, from the last quarter of a day on.
-// - A century has 36524 days and each fourth, which ends with the leap day of a multiple of 400, one more: 146097 quarters on the average.
-//   So it is (4 n + 3) / 146097, and the rest of that division over 4 is the day of the century, b.
-// - A year of it has 365 days and each fourth one more: 1461 quarters. So it is (4 b + 3) / 1461, and the rest over 4 is the day of the year,
-//   x. (The hundredth year gets a 366th day only in a century that is long enough.)
+// -4800, held as 35200, a multiple of 400: the day 0 is n = 31717. Count in quarters of a day: 4 n + 3 is the last quarter of the day n.
+// - A century has 146097 quarters on the average: 36524 days, and each fourth, which ends with the leap day of a multiple of 400, one more.
+//   So the century is (4 n + 3) / 146097, and the rest of that division over 4 is the day of the century, b.
+// - A year of it has 1461 quarters on the average: 365 days, and each fourth one more. So the year is (4 b + 3) / 1461, and the rest over 4
+//   is the day of the year, x. (The hundredth year has its 366th day only in a century that is long enough.)
 // - From March on, months have 31 30 31 30 31 days, again 31 30 31 30 31, then 31 and what is left: five have 153. So month m, from 0 for
 //   March to 11 for February, begins at x = (153 m + 2) / 5, and m is (5 x + 2) / 153. January and February are the next year's.
 // For days 0 to 5373811 the century is at most 147, b 36524, the year of the century 99, x 365.
@@ -108,7 +108,7 @@ pub fn date_after(days: u32) -> Ymd
     }
 }
 
-// The instant at which a date begins. Its day may lie past its month's end.
+// The instant at which a date begins, START at the earliest. Its day may lie past its month's end.
 pub fn midnight(year: u32, month: u32, day: u32) -> u64
     requires { ⌜ Countable year month day ⌝ }
     ensures { λ r. ⌜ (r ≡ rule.midnight year month day) × (9223372008558775808 ≤ r) × (r + 86399999 ≤ rule.last) ⌝ }
@@ -116,7 +116,7 @@ pub fn midnight(year: u32, month: u32, day: u32) -> u64
     START + days_to(year, month, day) as u64 * DAY
 }
 
-// The days from -4713-01-01 to an instant.
+// The days from -4713-01-01 to an instant: DAY_ZERO at the earliest.
 pub fn day_of(ms: u64) -> u32
     requires { ⌜ InRange ms ⌝ }
     ensures { λ r. ⌜ (r ≡ rule.dayOf ms) × (327 ≤ r) × (r ≤ lastDay) ⌝ }

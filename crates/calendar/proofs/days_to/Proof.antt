@@ -4,7 +4,7 @@ use Prim.Native.Nat.{ℕ, suc, _+_, _-_, _*_, _/_, _≤_}
 use native.Mathlib.Omega.{arith}
 use borrow.Author.Needs.{needs}
 use Rattle.rules.specs.Calendar.{minusYear, years, dayOfYear, daysTo}
-use Rattle.calendar.specs.Ranges.{Countable}
+use Rattle.calendar.specs.Ranges.{lastDay, Countable}
 use Rattle.calendar.proofs.Years.{closed, days-high}
 use Rattle.calendar.proofs.days_to.Statement.{statement}
 use Rattle.calendar.proofs.days_to.Tie as tie
@@ -18,7 +18,7 @@ before y h =
     let e : suc (y - 1) ≡ y = omega arith in
     sum y _ _ _ _ (omega arith) (rw e at (closed (y - 1) (omega arith)))
 
-total : (y m d r : ℕ) → Countable y m d → r ≡ dayOfYear y m d → let n = 365 * y + (y - 1) / 4 - (y - 1) / 100 + (y - 1) / 400 - 12888312 + r in (n ≡ daysTo y m d) × (n ≤ 5373811)
+total : (y m d r : ℕ) → Countable y m d → r ≡ dayOfYear y m d → let n = 365 * y + (y - 1) / 4 - (y - 1) / 100 + (y - 1) / 400 - 12888312 + r in (n ≡ daysTo y m d) × (n ≤ lastDay)
 unfolding daysTo
 total y m d r h e = rw (before y (h .year-low) .1, e) (refl, days-high y m d h)
 
