@@ -80,6 +80,7 @@ fn value_line(r: &mut Random, out: &mut Vec<u8>) {
             0 => word(r, &["subsec"], out),
             1 => out.extend(b"+0 days"),
             2 => word(r, &["utc", "localtime"], out),
+            3 => word(r, &["floor"], out),
             _ => modifier(r, out),
         }
     }
@@ -162,8 +163,17 @@ fn numbers_line(r: &mut Random, out: &mut Vec<u8>) {
             write!(out, " {}", r.pick(&["days", "hours", "seconds", "months"])).unwrap();
         }
         5 => {
-            spaced_number(r, out);
+            if r.one_in(2) {
+                julian_day(r, out);
+            } else {
+                spaced_number(r, out);
+            }
             out.push(b'\t');
+            if r.one_in(8) {
+                // Then the next one is not the first.
+                modifier(r, out);
+                out.push(b'\t');
+            }
             word(r, &["auto", "unixepoch", "julianday", "subsec"], out);
         }
         6 => {

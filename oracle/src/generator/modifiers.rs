@@ -30,7 +30,7 @@ pub fn modifier(r: &mut Random, out: &mut Vec<u8>) {
                 out.extend(r.pick(&[" ", " ", " ", "  ", " \x0b"]).bytes());
                 modifier_time(r, out);
             }
-            back_to_month_end(r, out);
+            floor(r, 4, out);
         }
         2 => {
             sign(r, out);
@@ -133,14 +133,13 @@ pub fn units(r: &mut Random, out: &mut Vec<u8>) {
     if r.one_in(40) {
         out.extend(r.pick(&[" ", "\r", "\x0b", " and more", "  ago", "\x1c"]).bytes());
     }
-    if unit >= 4 {
-        back_to_month_end(r, out);
-    }
+    floor(r, if unit < 4 { 10 } else { 4 }, out);
 }
 
-/// What a month shift leaves past the month's end, floor takes away.
-pub fn back_to_month_end(r: &mut Random, out: &mut Vec<u8>) {
-    if r.one_in(4) {
+/// What a month shift leaves past the month's end floor takes away, once in so
+/// many.
+pub fn floor(r: &mut Random, times: usize, out: &mut Vec<u8>) {
+    if r.one_in(times) {
         out.extend(b"\tfloor");
     }
 }
