@@ -191,7 +191,13 @@ pub fn from_before(r: &mut Random, out: &mut Vec<u8>) {
         out.push(b' ');
         good_time(r, out);
     }
-    if year < -4713 {
+    if year == -9999 && r.one_in(2) {
+        // Only from here the limits of months and years lie within the range.
+        let (limit, unit) = r.pick(&[(176546.0, "months"), (14713.0, "years")]);
+        out.extend(b"\t+");
+        near_number(r, limit, out);
+        write!(out, " {unit}").unwrap();
+    } else if year < -4713 {
         write!(out, "\t+{} years", -year - r.between(0, 4713)).unwrap();
     }
     for _ in 0..r.between(0, 2) {
