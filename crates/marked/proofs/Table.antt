@@ -4,7 +4,7 @@ use mathlib.Core.Path.{_≡_, refl}
 use mathlib.Core.List.{List, [], _∷_}
 use Rattle.rules.specs.Calls.{badShape, badBytes, badSetting}
 use Rattle.rules.specs.Functions.{answer, reading, settle}
-use Rattle.rules.specs.Computing.{computing}
+use Rattle.marked.specs.Computing.{computing}
 use Rattle.rules.specs.declared.Setting.{Setting}
 use Rattle.marked.specs.Marked.{Row, rows, All}
 

@@ -5,7 +5,7 @@ use mathlib.Core.List.{List, [], _∷_}
 use lib.Dec.{eqb, ltb, leb}
 use lib.ListN.{take, getD}
 use Rattle.rules.specs.Basics.{if_then_else_}
-use Rattle.rules.specs.declared.Ymd.{Ymd}
+use Rattle.rules.specs.Types.{Ymd}
 
 -- the year n, and the year -n, as they are held
 abbrev pub year : ℕ → ℕ
@@ -37,7 +37,6 @@ abbrev pub halfDay : ℕ
 halfDay = 43200000
 
 -- ---- years and months
-
 -- "A year is leap if 4 divides it and 100 does not, or 400 does."
 abbrev pub divides : ℕ → ℕ → Bool
 divides k n = eqb (n % k) 0
@@ -69,7 +68,6 @@ pub record Exists (y m d : ℕ) : Type 0 where
   pub day-high : d ≤ monthLength y m
 
 -- ---- "The definition counts days by adding year and month lengths": from -4713-01-01 on
-
 -- what a list of numbers adds up to
 unfoldable pub sum : List ℕ → ℕ
 sum [] = 0
@@ -110,7 +108,6 @@ unfoldable pub dateAfter : ℕ → Ymd
 dateAfter n = inYears 14712 (minusYear 4713) n
 
 -- ---- milliseconds
-
 -- the days from -4713-01-01 to -4713-11-24, which holds the millisecond 0 at its noon
 unfoldable pub dayZero : ℕ
 dayZero = daysTo (minusYear 4713) 11 24
@@ -133,8 +130,6 @@ timeOfDay t = (t - start) % dayLength
 -- "Milliseconds to fields takes 0 to the last and gives an existing day": the date of an instant's day
 unfoldable pub civil : ℕ → Ymd
 civil t = dateAfter (dayOf t)
-
--- ---- weeks
 
 -- the days since the last Monday, and since the last Sunday: the day of the millisecond 0 was a Monday
 unfoldable pub sinceMonday : ℕ → ℕ

@@ -2,7 +2,7 @@
 use Prim.Native.Nat.{ℕ, _*_, _^_}
 use mathlib.Core.Bool.{Bool, false, _&&_}
 use lib.IntN.{ℤ, pos}
-use lib.Ieee.{Float, nan, inf, fin, binary64, add, sub, mul, div, neg, lt, le, ofInt, ofBits, round, toSigned, toUnsigned}
+use lib.Ieee.{Float, nan, inf, fin, binary64, add, sub, mul, div, neg, lt, le, ofInt, round, toSigned, toUnsigned}
 use lib.Ieee.Nearest.{closest}
 use lib.Ieee.Positive.{num, den}
 

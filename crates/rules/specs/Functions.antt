@@ -5,17 +5,12 @@ use mathlib.Core.List.{List, [], _∷_, _++_}
 use lib.Dec.{ltb}
 use Rattle.rules.specs.Basics.{if_then_else_, ascii, Read, got, other, refuse, _>>=_}
 use Rattle.rules.specs.Calls.{Value, absent, null, bytes, signed, float, Call, call, strftime, timediff, Outcome, text, integer, real, refused, modifiers, badShape, badBytes, badSetting}
-use Rattle.rules.specs.Record.{setDated}
 use Rattle.rules.specs.Calendar.{inRange}
-use Rattle.rules.specs.Moments.{countMs, fill}
+use Rattle.rules.specs.Moments.{Moment, setDated, countMs, fill}
 use Rattle.rules.specs.Reading.{timeValue}
 use Rattle.rules.specs.Modifiers.{modified}
-use Rattle.rules.specs.Writing.{dateText, timeText, unixSeconds, unixReal, julianReal, formatted}
-use Rattle.rules.specs.Timediff.{difference}
-use Rattle.rules.specs.declared.Refusal.{Refusal}
-use Rattle.rules.specs.declared.Setting.{Setting}
-use Rattle.rules.specs.declared.Function.{Function}
-use Rattle.rules.specs.declared.Moment.{Moment}
+use Rattle.rules.specs.Writing.{dateText, timeText, unixSeconds, unixReal, julianReal, formatted, difference}
+use Rattle.rules.specs.Types.{Setting, Refusal, Function}
 
 -- "final range": a failed sum, or a time outside 0 to the last millisecond, gives 1
 unfoldable pub ranged : Moment → Read Moment

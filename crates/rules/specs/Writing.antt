@@ -1,19 +1,18 @@
--- Writing: digits, dates and times, and the letters of strftime.
+-- Writing: digits, dates and times, the letters of strftime, and timediff.
 use Prim.Native.Nat.{ℕ, zero, suc, _+_, _-_, _*_, _/_, _%_, _^_, max}
 use Prim.Native.Char.{Char}
-use mathlib.Core.Bool.{_||_}
+use mathlib.Core.Bool.{_||_, Bool}
 use mathlib.Core.List.{List, [], _∷_, _++_}
 use lib.Dec.{eqb, ltb, leb}
 use lib.IntN.{ℤ, pos, negsuc}
 use lib.Ieee.{Float, binary64, ofInt, minus}
 use Rattle.rules.specs.Basics.{if_then_else_, ascii, is, trimEnd, Read, got, refuse, _>>=_}
 use Rattle.rules.specs.Floats.{number, _⊘_, whole, decimals, negative}
-use Rattle.rules.specs.Calendar.{year, instant, unixEpoch, sinceMonday, sinceSunday, thursday, isoWeek, dayOfYear}
-use Rattle.rules.specs.declared.Refusal.{Refusal}
-use Rattle.rules.specs.declared.Moment.{Moment}
+use Rattle.rules.specs.Calendar.{year, instant, unixEpoch, sinceMonday, sinceSunday, thursday, isoWeek, dayOfYear, dayLength, midnight, timeOfDay, civil}
+use Rattle.rules.specs.Moments.{Moment}
+use Rattle.rules.specs.Types.{Refusal, Ymd}
 
 -- ---- digits
-
 -- the n lowest decimal places of v, the highest first
 unfoldable pub places : ℕ → ℕ → List ℕ
 places zero v = []
@@ -36,21 +35,14 @@ unfoldable pub integerText : ℤ → List ℕ
 integerText (pos n) = wide 1 n
 integerText (negsuc n) = ascii "-" ++ wide 1 (suc n)
 
--- ---- years, which may be negative: "Negative years as the Rust."
-
--- date and datetime: a minus, and four digits
-unfoldable pub yearText : ℕ → List ℕ
-yearText y = if leb (year 0) y then wide 4 (y - year 0) else ascii "-" ++ wide 4 (year 0 - y)
-
--- strftime: the minus is one of the four places
-unfoldable pub yearLetter : ℕ → List ℕ
-yearLetter y = if leb (year 0) y then wide 4 (y - year 0) else ascii "-" ++ wide 3 (year 0 - y)
+-- ---- "Negative years as the Rust."
+-- four digits, or a minus and k of them: 4 in date and datetime, 3 in strftime, where the minus is one of four places
+unfoldable pub signedYear : ℕ → ℕ → List ℕ
+signedYear k y = if leb (year 0) y then wide 4 (y - year 0) else ascii "-" ++ wide k (year 0 - y)
 
 -- strftime's two digits: the remainder by 100, with the year's sign
 unfoldable pub yearShort : ℕ → List ℕ
 yearShort y = if leb (year 0) y || eqb ((year 0 - y) % 100) 0 then wide 2 ((y - year 0) % 100) else ascii "-" ++ wide 1 ((year 0 - y) % 100)
-
--- ---- seconds
 
 -- "three decimals of the f64, ties to even"; and the seconds cut
 unfoldable pub threeDecimals : ℕ → Float → List ℕ
@@ -59,17 +51,18 @@ threeDecimals n x = let t = decimals 3 x in wide n (t / 1000) ++ ascii "." ++ pl
 abbrev pub secondText : Float → List ℕ
 secondText s = wide 2 (whole s)
 
--- ---- the texts of date, time and datetime
+abbrev pub hourMinute : Moment → List ℕ
+hourMinute p = wide 2 (p .hour) ++ ascii ":" ++ wide 2 (p .minute)
 
+-- the texts of date and time
 unfoldable pub dateText : Moment → List ℕ
-dateText p = yearText (p .year) ++ ascii "-" ++ wide 2 (p .month) ++ ascii "-" ++ wide 2 (p .day)
+dateText p = signedYear 4 (p .year) ++ ascii "-" ++ wide 2 (p .month) ++ ascii "-" ++ wide 2 (p .day)
 
 -- "Seconds with subsec: three decimals of the f64, ties to even."
 unfoldable pub timeText : Moment → List ℕ
-timeText p = wide 2 (p .hour) ++ ascii ":" ++ wide 2 (p .minute) ++ ascii ":" ++ (if p .subsec then threeDecimals 2 (p .second) else secondText (p .second))
+timeText p = hourMinute p ++ ascii ":" ++ (if p .subsec then threeDecimals 2 (p .second) else secondText (p .second))
 
 -- ---- the time since the Unix epoch
-
 -- in milliseconds, and in seconds: "divided by 1000 and rounded by floor, so -500 ms is second -1"
 abbrev pub sinceEpoch : ℕ → ℤ
 sinceEpoch t = minus t unixEpoch
@@ -91,8 +84,7 @@ unixText p = if p .subsec
     then (let x = unixReal (p .ms) in (if negative x then ascii "-" else []) ++ threeDecimals 1 x)
     else integerText (unixSeconds (p .ms))
 
--- ---- the Julian day
-
+-- the Julian day
 unfoldable pub julianReal : ℕ → Float
 julianReal t = number (t - instant 0) ⊘ number 86400000
 
@@ -104,29 +96,23 @@ julianText t = let n = decimals 9 (julianReal t) in trimEnd (is ".") (trimEnd (i
 unfoldable pub julianLetter : ℕ → Read (List ℕ)
 julianLetter t = if ltb t (instant 86400000000000) then refuse Refusal.Early else got (julianText t)
 
--- ---- weeks
-
 -- the week of the year, for weeks that begin on the day of the week since which w days have passed
 abbrev pub week : Moment → ℕ → ℕ
 week p w = (dayOfYear (p .year) (p .month) (p .day) + 7 - w) / 7
 
 -- ---- "Twenty-six letters and the percent sign are read after a `%`"
-
 -- the hour on a dial of twelve
 abbrev pub dial : ℕ → ℕ
 dial h = if eqb (h % 12) 0 then 12 else h % 12
-
-abbrev pub hourMinute : Moment → List ℕ
-hourMinute p = wide 2 (p .hour) ++ ascii ":" ++ wide 2 (p .minute)
 
 unfoldable pub letters : List (Char × (Moment → Read (List ℕ)))
 letters =
     ("d", λ p. got (wide 2 (p .day)))
     ∷ ("e", λ p. got (spaced (p .day)))
-    ∷ ("F", λ p. got (yearLetter (p .year) ++ ascii "-" ++ wide 2 (p .month) ++ ascii "-" ++ wide 2 (p .day)))
+    ∷ ("F", λ p. got (signedYear 3 (p .year) ++ ascii "-" ++ wide 2 (p .month) ++ ascii "-" ++ wide 2 (p .day)))
     ∷ ("f", λ p. got (threeDecimals 2 (p .second)))
     ∷ ("g", λ p. got (yearShort (thursday (p .ms) .year)))
-    ∷ ("G", λ p. got (yearLetter (thursday (p .ms) .year)))
+    ∷ ("G", λ p. got (signedYear 3 (thursday (p .ms) .year)))
     ∷ ("H", λ p. got (wide 2 (p .hour)))
     ∷ ("I", λ p. got (wide 2 (dial (p .hour))))
     ∷ ("j", λ p. got (wide 3 (dayOfYear (p .year) (p .month) (p .day) + 1)))
@@ -146,7 +132,7 @@ letters =
     ∷ ("V", λ p. got (wide 2 (isoWeek (p .ms))))
     ∷ ("w", λ p. got (wide 1 (sinceSunday (p .ms))))
     ∷ ("W", λ p. got (wide 2 (week p (sinceMonday (p .ms)))))
-    ∷ ("Y", λ p. got (yearLetter (p .year)))
+    ∷ ("Y", λ p. got (signedYear 3 (p .year)))
     ∷ ("%", λ p. got (ascii "%"))
     ∷ []
 
@@ -175,3 +161,41 @@ formatted p (b ∷ c ∷ s) =
     let lettered = before (letter c p) (formatted p s) in
     let plain = before (got (b ∷ [])) (formatted p (c ∷ s)) in
     if is "%" b then lettered else plain
+
+-- ---- timediff: "sign, four or more year digits. The sign is plus if A is not before B."
+-- the calendar month of a date, as a count of months
+abbrev pub monthOf : Ymd → ℕ
+monthOf c = c .year * 12 + (c .month - 1)
+
+-- B moved to another calendar month: its day, which may run over, and its time of day stay
+unfoldable pub inMonth : ℕ → ℕ → ℕ
+inMonth b k = midnight (k / 12) (k % 12 + 1) (civil b .day) + timeOfDay b
+
+-- "is backed off one month at a time and stops at the first that does not pass": from n months on, where `passes` says of a shift that it carries B past A
+unfoldable pub backOff : (ℕ → Bool) → ℕ → ℕ
+backOff passes zero = zero
+backOff passes (suc n) = let less = backOff passes n in if passes (suc n) then less else suc n
+
+-- a shift of n months and the milliseconds that are left
+unfoldable pub shiftText : ℕ → ℕ → List ℕ
+shiftText n rest =
+    wide 4 (n / 12) ++ ascii "-" ++ wide 2 (n % 12) ++ ascii "-" ++ wide 2 (rest / dayLength)
+    ++ ascii " " ++ wide 2 (rest / 3600000 % 24) ++ ascii ":" ++ wide 2 (rest / 60000 % 60) ++ ascii ":" ++ wide 2 (rest / 1000 % 60) ++ ascii "." ++ places 3 rest
+
+-- B is not after A: months are added to it
+unfoldable pub forward : ℕ → ℕ → List ℕ
+forward a b =
+    let k = monthOf (civil b) in
+    let n = backOff (λ n. ltb a (inMonth b (k + n))) (monthOf (civil a) - k) in
+    ascii "+" ++ shiftText n (a - inMonth b (k + n))
+
+-- B is after A: months are taken off it
+unfoldable pub backward : ℕ → ℕ → List ℕ
+backward a b =
+    let k = monthOf (civil b) in
+    let n = backOff (λ n. ltb (inMonth b (k - n)) a) (k - monthOf (civil a)) in
+    ascii "-" ++ shiftText n (inMonth b (k - n) - a)
+
+-- "timediff first renews both arguments' fields from their milliseconds": so it is a text of two instants. "The shift starts at the months from B's calendar month to A's."
+unfoldable pub difference : ℕ → ℕ → List ℕ
+difference a b = let plus = forward a b in let minus = backward a b in if leb b a then plus else minus
