@@ -18,7 +18,8 @@ ghost use lib.Ieee.{neg};
 ghost use Rattle.rules.specs.Basics.{if_then_else_, is, isDigit};
 ghost use Rattle.rules.specs.Basics.{lower as Basics·lower, word as Basics·word};
 ghost use Rattle.rules.specs.Decimal as rule;
-ghost use Rattle.decimal.specs.Reads.{asRead, asExponent, held, heldExponent, Taken};
+ghost use Rattle.decimal.specs.AsRead.{asRead};
+ghost use Rattle.decimal.specs.Held.{asExponent, held, heldExponent, Taken};
 
 mod nearest;
 
@@ -217,6 +218,7 @@ fn is_digit(b: u8) -> bool
     48 <= b && b <= 57
 }
 
+// The cast stands in a function of its own, which needs no proof that a byte of a slice fits.
 fn wide(b: u8) -> u64
     ensures { λ r. ⌜ r ≡ b ⌝ }
 {
