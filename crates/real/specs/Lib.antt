@@ -1,0 +1,3 @@
+-- What the contracts cite beside crate rules' definitions.
+pub mod FractionAt
+pub mod PartsOf
