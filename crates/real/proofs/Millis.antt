@@ -1,29 +1,25 @@
--- Seconds and a fraction to milliseconds: "times 1000, plus 0.5, cut" gives the whole milliseconds that the fraction is near. Assumes nothing.
+-- Seconds to milliseconds: "times 1000, plus 0.5, cut" gives the whole milliseconds that the seconds are near. Assumes nothing.
 use mathlib.Core.Path.{_≡_, refl, sym, ap, _∙_, subst}
-use Prim.Native.Nat.{ℕ, zero, suc, _+_, _-_, _*_, _/_, _%_, _^_, _≤_, _<_, min}
-use native.Mathlib.Nat.{le-refl, le-trans, le-of-eq, le-antisymm, lt-of-lt-of-le, lt-of-le-of-lt, le-of-suc-le-suc, suc-mul, mul-one, one-mul, mul-comm, mul-assoc, add-mul, mul-le-mul-right, mul-pos, le-div-iff-mul-le, div-lt-iff-lt-mul}
+use Prim.Native.Nat.{ℕ, suc, _+_, _-_, _*_, _/_, _^_, _≤_, _<_, min}
+use native.Mathlib.Nat.{le-trans, le-of-eq, le-of-lt, le-antisymm, lt-of-lt-of-le, le-of-suc-le-suc, suc-mul, mul-one, mul-assoc, mul-right-comm, add-mul, lt-of-mul-lt-mul-right, mul-le-mul-right, le-div-iff-mul-le, div-lt-iff-lt-mul}
 use native.Mathlib.Omega.{arith}
-use mathlib.Core.Bool.{Bool, true, false, cond, true≢false}
-use lib.Dec.{T, lit≤}
-use lib.IntN.{ℤ, pos, negsuc}
-use lib.Pow.{pow-add, pow-pos, pow-mono, shl-lt}
-use lib.Ieee.{Float, nan, inf, fin, Format, binary64, prec, emax, low, up, down, round, add, mul, div, ofInt, toUnsigned}
+use mathlib.Core.Bool.{true, false, true≢false}
+use lib.Dec.{lit≤}
+use lib.Pow.{pow-pos}
+use lib.Ieee.{Float, nan, inf, fin, binary64, up, down, round, toUnsigned}
 use lib.Ieee.Fits.{down-pos}
-use lib.Ieee.Exact.{HasValue, round-exact}
-use lib.Ieee.Nearest.{div-same}
-use Rattle.real.proofs.Near.{value-same, Rounded, rounded, Moved, moved, add-moved, mul-moved, div-at}
-
-abbrev pub thousand : Float
-thousand = fin false 125 (pos 3)
-
-abbrev pub half : Float
-half = fin false 1 (negsuc 0)
+use lib.Ieee.Exact.{HasValue}
+use lib.Ieee.Nearest.{closest, closest-same, div-same}
+use lib.Ieee.Positive.{num, den, den-pos, value→cross}
+use Rattle.rules.specs.Floats.{number, half, whole, decimals, _⊕_, _⊗_, _⊘_}
+use Rattle.rules.specs.Moments.{secondsMs}
+use Rattle.real.proofs.Near.{closest-half, value-same, rounded, add-moved, mul-moved, div-at, number-val}
 
 -- ---- the cut of a value
 uncapped : (a : ℕ) → a < 2 ^ 64 → min a (2 ^ 64 - 1) ≡ a
 uncapped a h = omega arith
 
-pub cut-at : (x : Float) (a c : ℕ) → 0 < c → a < 2 ^ 64 * c → HasValue x false a c → toUnsigned 64 x ≡ a / c
+pub cut-at : (x : Float) (a c : ℕ) → 0 < c → a < 2 ^ 64 * c → HasValue x false a c → whole x ≡ a / c
 unfolding toUnsigned
 cut-at nan a c C b v = absurd v
 cut-at (inf t) a c C b v = absurd v
@@ -36,88 +32,128 @@ pub quotient : (g q l : ℕ) → 0 < l → q * l ≤ g → g < q * l + l → g /
 quotient g q l L a b =
     le-antisymm (le-of-suc-le-suc (div-lt-iff-lt-mul L .1 (lt-of-lt-of-le b (le-of-eq (sym (suc-mul q l)))))) (le-div-iff-mul-le L .1 a)
 
--- ---- a whole number up to 2 ^ 53 is exact
-pub ofInt-val : (n : ℕ) → n < 2 ^ 53 → HasValue (ofInt binary64 (pos n)) false n 1
-unfolding ofInt
-ofInt-val n h = round-exact binary64 false n 1 n 1074 (pow-pos 0) h (fine n h) (sym (mul-one (n * 2 ^ 1074)))
-  where
-    fine : (n : ℕ) → n < 2 ^ 53 → n * 2 ^ 1074 < 2 ^ (1074 + 1024)
-    fine n h = lt-of-lt-of-le (shl-lt 53 1074 h) (pow-mono {i = 53 + 1074} {j = 1074 + 1024} (lit≤ tt))
+-- ---- values in units of 2 ^ -1074
+pub ofInt-val : (n : ℕ) → n < 2 ^ 53 → HasValue (number n) false n 1
+ofInt-val n h = number-val n (le-of-lt h)
 
-pub to-units : (x : Float) (n : ℕ) → HasValue x false n 1 → HasValue x false (n * 2 ^ low binary64) (2 ^ low binary64)
+pub to-units : (x : Float) (n : ℕ) → HasValue x false n 1 → HasValue x false (n * 2 ^ 1074) (2 ^ 1074)
 to-units x n v = value-same x n 1 (n * 2 ^ 1074) (2 ^ 1074) (pow-pos 0) (sym (mul-one (n * 2 ^ 1074))) v
 
 pub half-val : HasValue half false (2 ^ 1073) (2 ^ 1074)
+unfolding round
 half-val = (refl, refl)
 
-thousand-val : HasValue thousand false 1000 1
-thousand-val = (refl, refl)
+-- ---- x is k thousandths, within e * 2 ^ -14
+pub record Nearly (x : Float) (k e : ℕ) : Type 0 where
+  pub units : ℕ
+  pub is : HasValue x false units (2 ^ 1074)
+  pub above : units * 1000 * 2 ^ 14 ≤ k * 2 ^ 1074 * 2 ^ 14 + e * 1000 * 2 ^ 1074
+  pub below : k * 2 ^ 1074 * 2 ^ 14 ≤ units * 1000 * 2 ^ 14 + e * 1000 * 2 ^ 1074
 
--- ---- the errors together: sL and kL are s and k in units, and L is 1
-ends : (L H sL kL g1 g2 g3 g4 : ℕ) → L ≡ H * 2 → 0 < L
-    → g1 * 1000 * 2 ^ 14 ≤ kL * 2 ^ 14 + 1000 * L → kL * 2 ^ 14 ≤ g1 * 1000 * 2 ^ 14 + 1000 * L
-    → g2 * 2 ^ 14 ≤ (sL + g1) * 2 ^ 14 + L → (sL + g1) * 2 ^ 14 ≤ g2 * 2 ^ 14 + L
-    → g3 * 2 ^ 14 ≤ g2 * 1000 * 2 ^ 14 + L → g2 * 1000 * 2 ^ 14 ≤ g3 * 2 ^ 14 + L
-    → g4 * 2 ^ 14 ≤ (g3 + H) * 2 ^ 14 + L → (g3 + H) * 2 ^ 14 ≤ g4 * 2 ^ 14 + L
-    → (1000 * sL + kL ≤ g4) × (g4 < 1000 * sL + kL + L)
-ends L H sL kL g1 g2 g3 g4 e p a b c d f g h i = (omega arith, omega arith)
+-- `omega` takes no number of more than 38 digits, so each step is shown at a variable L. L is 1, in units; kL is k.
+module _ (L kL g : ℕ) (P : 0 < L) where
+  -- whole seconds and a fraction
+  sum-lt : (sL : ℕ) → sL ≤ 59 * L → kL ≤ 999 * L → g * 1000 * 2 ^ 14 ≤ kL * 2 ^ 14 + 1 * 1000 * L → sL + g < L * 2 ^ 40
+  sum-lt sL a b c = omega arith
 
-unfoldable pub millis : ℕ → Float → Float
-unfolding add mul ofInt
-millis s r = add binary64 (mul binary64 (add binary64 (ofInt binary64 (pos s)) r) thousand) half
+  sum-up : (sL h : ℕ) → h * 2 ^ 14 ≤ (sL + g) * 2 ^ 14 + L → g * 1000 * 2 ^ 14 ≤ kL * 2 ^ 14 + 1 * 1000 * L → h * 1000 * 2 ^ 14 ≤ (1000 * sL + kL) * 2 ^ 14 + 2 * 1000 * L
+  sum-up sL h a b = omega arith
 
--- the bounds, each at a variable L, since `omega` takes no number of more than 38 digits
-sum-lt : (L sL kL g : ℕ) → 0 < L → sL ≤ 59 * L → kL ≤ 999 * L → g * 1000 * 2 ^ 14 ≤ kL * 2 ^ 14 + 1000 * L → sL + g < L * 2 ^ 40
-sum-lt L sL kL g p a b c = omega arith
+  sum-down : (sL h : ℕ) → (sL + g) * 2 ^ 14 ≤ h * 2 ^ 14 + L → kL * 2 ^ 14 ≤ g * 1000 * 2 ^ 14 + 1 * 1000 * L → (1000 * sL + kL) * 2 ^ 14 ≤ h * 1000 * 2 ^ 14 + 2 * 1000 * L
+  sum-down sL h a b = omega arith
 
-mul-lt : (L sL kL g g2 : ℕ) → 0 < L → sL ≤ 59 * L → kL ≤ 999 * L → g * 1000 * 2 ^ 14 ≤ kL * 2 ^ 14 + 1000 * L → g2 * 2 ^ 14 ≤ (sL + g) * 2 ^ 14 + L → g2 ≤ 64 * L
-mul-lt L sL kL g g2 p a b c d = omega arith
+  -- times 1000, and then plus 0.5: H is 0.5
+  mul-lt : kL ≤ 60000 * L → g * 1000 * 2 ^ 14 ≤ kL * 2 ^ 14 + 2 * 1000 * L → g * 1000 < L * 2 ^ 40
+  mul-lt a b = omega arith
 
-mul-lt' : (L g2 : ℕ) → 0 < L → g2 ≤ 64 * L → g2 * 1000 < L * 2 ^ 40
-mul-lt' L g2 p h = omega arith
+  add-lt : (H h : ℕ) → L ≡ H * 2 → kL ≤ 60000 * L → g * 1000 * 2 ^ 14 ≤ kL * 2 ^ 14 + 2 * 1000 * L → h * 2 ^ 14 ≤ g * 1000 * 2 ^ 14 + L → h + H < L * 2 ^ 40
+  add-lt H h e a b c = omega arith
 
-add-lt' : (L H g2 g3 : ℕ) → 0 < L → L ≡ H * 2 → g2 ≤ 64 * L → g3 * 2 ^ 14 ≤ g2 * 1000 * 2 ^ 14 + L → g3 + H < L * 2 ^ 40
-add-lt' L H g2 g3 p e h k = omega arith
+  ends : (H h i : ℕ) → L ≡ H * 2
+      → g * 1000 * 2 ^ 14 ≤ kL * 2 ^ 14 + 2 * 1000 * L → kL * 2 ^ 14 ≤ g * 1000 * 2 ^ 14 + 2 * 1000 * L
+      → h * 2 ^ 14 ≤ g * 1000 * 2 ^ 14 + L → g * 1000 * 2 ^ 14 ≤ h * 2 ^ 14 + L
+      → i * 2 ^ 14 ≤ (h + H) * 2 ^ 14 + L → (h + H) * 2 ^ 14 ≤ i * 2 ^ 14 + L
+      → (kL ≤ i) × (i < kL + L)
+  ends H h i e a b c d f j = (omega arith, omega arith)
 
-in-64 : (L sL kL g4 : ℕ) → 0 < L → sL ≤ 59 * L → kL ≤ 999 * L → g4 < 1000 * sL + kL + L → g4 < 2 ^ 64 * L
-in-64 L sL kL g4 p a b c = omega arith
+  in-64 : (i : ℕ) → kL ≤ 60000 * L → i < kL + L → i < 2 ^ 64 * L
+  in-64 i a b = omega arith
 
 joined : (s k L : ℕ) → 1000 * (s * L) + k * L ≡ (1000 * s + k) * L
 joined s k L = ap (λ (z : ℕ). z + k * L) (sym (mul-assoc 1000 s L)) ∙ sym (add-mul (1000 * s) k L)
 
-pub near-millis : (r : Float) (s k g : ℕ) → s ≤ 59 → k ≤ 999 → HasValue r false g (2 ^ low binary64)
-    → g * 1000 * 2 ^ 14 ≤ k * 2 ^ low binary64 * 2 ^ 14 + 1000 * 2 ^ low binary64
-    → k * 2 ^ low binary64 * 2 ^ 14 ≤ g * 1000 * 2 ^ 14 + 1000 * 2 ^ low binary64
-    → toUnsigned 64 (millis s r) ≡ 1000 * s + k
-unfolding millis
-near-millis r s k g hs hk v up' dn =
+pub nearly-sum : (s k : ℕ) (r : Float) → s ≤ 59 → k ≤ 999 → Nearly r k 1 → Nearly (number s ⊕ r) (1000 * s + k) 2
+nearly-sum s k r hs hk n =
+    let L = 2 ^ 1074 in
+    let P : 0 < L = pow-pos 1074 in
+    let m = add-moved binary64 (number s) r (s * L) (n .units) 14 40 refl (lit≤ tt) (sum-lt L (k * L) (n .units) P (s * L) (mul-le-mul-right L hs) (mul-le-mul-right L hk) (n .above))
+    (to-units (number s) s (number-val s (le-trans hs (lit≤ tt)))) (n .is) in
+    record {
+      units = m .units;
+      is = m .is;
+      above = subst (λ (z : ℕ). m .units * 1000 * 2 ^ 14 ≤ z * 2 ^ 14 + 2 * 1000 * L) (joined s k L) (sum-up L (k * L) (n .units) P (s * L) (m .units) (m .above) (n .above));
+      below = subst (λ (z : ℕ). z * 2 ^ 14 ≤ m .units * 1000 * 2 ^ 14 + 2 * 1000 * L) (joined s k L) (sum-down L (k * L) (n .units) P (s * L) (m .units) (m .below) (n .below));
+    }
+
+pub nearly-ms : (x : Float) (k : ℕ) → k ≤ 60000 → Nearly x k 2 → secondsMs x ≡ k
+nearly-ms x k hk n =
     let L = 2 ^ 1074 in
     let H = 2 ^ 1073 in
     let P : 0 < L = pow-pos 1074 in
-    let sL : s * L ≤ 59 * L = mul-le-mul-right L hs in
-    let kL : k * L ≤ 999 * L = mul-le-mul-right L hk in
-    let S = ofInt binary64 (pos s) in
-    let m2 = add-moved binary64 S r (s * L) g 14 40 refl (lit≤ tt) (sum-lt L (s * L) (k * L) g P sL kL up')
-    (to-units S s (ofInt-val s (lt-of-le-of-lt hs (lit≤ tt)))) v in
-    let b2 = mul-lt L (s * L) (k * L) g (m2 .units) P sL kL up' (m2 .above) in
-    let m3 = mul-moved binary64 (add binary64 S r) thousand (m2 .units) 1000 14 40 refl (lit≤ tt) (mul-lt' L (m2 .units) P b2) (m2 .is) thousand-val in
-    let m4 = add-moved binary64 (mul binary64 (add binary64 S r) thousand) half (m3 .units) H 14 40 refl (lit≤ tt) (add-lt' L H (m2 .units) (m3 .units) P refl b2 (m3 .above)) (m3 .is) half-val in
-    let e = ends L H (s * L) (k * L) g (m2 .units) (m3 .units) (m4 .units) refl P up' dn (m2 .above) (m2 .below) (m3 .above) (m3 .below) (m4 .above) (m4 .below) in
-    cut-at (add binary64 (mul binary64 (add binary64 S r) thousand) half) (m4 .units) L P (in-64 L (s * L) (k * L) (m4 .units) P sL kL (e .1)) (m4 .is)
-    ∙ quotient (m4 .units) (1000 * s + k) L P
-    (le-trans (le-of-eq (sym (joined s k L))) (e .0))
-    (lt-of-lt-of-le (e .1) (le-of-eq (ap (λ (z : ℕ). z + L) (joined s k L))))
+    let g = n .units in
+    let kL : k * L ≤ 60000 * L = mul-le-mul-right L hk in
+    let m = mul-moved binary64 x (number 1000) g 1000 14 40 refl (lit≤ tt) (mul-lt L (k * L) g P kL (n .above)) (n .is) (number-val 1000 (lit≤ tt)) in
+    let a = add-moved binary64 (x ⊗ number 1000) half (m .units) H 14 40 refl (lit≤ tt) (add-lt L (k * L) g P H (m .units) refl kL (n .above) (m .above)) (m .is) half-val in
+    let e = ends L (k * L) g P H (m .units) (a .units) refl (n .above) (n .below) (m .above) (m .below) (a .above) (a .below) in
+    cut-at (x ⊗ number 1000 ⊕ half) (a .units) L P (in-64 L (k * L) g P (a .units) kL (e .1)) (a .is) ∙ quotient (a .units) k L P (e .0) (e .1)
 
--- ---- a fraction of three digits
-pub three-digits : (s k : ℕ) → s ≤ 59 → k ≤ 999 → toUnsigned 64 (millis s (div binary64 (ofInt binary64 (pos k)) thousand)) ≡ 1000 * s + k
-three-digits s k hs hk =
-    let x = ofInt binary64 (pos k) in
-    let e : div binary64 x thousand ≡ round binary64 false (k * 1) (1 * 1000) = div-at binary64 x thousand k 1 1000 1 (pow-pos 0) (pow-pos 0) (lit≤ tt) (ofInt-val k (lt-of-le-of-lt hk (lit≤ tt))) thousand-val in
+-- ---- whole milliseconds as seconds, and back
+pub nearly-quotient : (k : ℕ) → k ≤ 60000 → Nearly (number k ⊘ number 1000) k 2
+nearly-quotient k hk =
+    let L = 2 ^ 1074 in
+    let x = number k ⊘ number 1000 in
+    let e : x ≡ round binary64 false (k * 1) (1 * 1000) = div-at binary64 (number k) (number 1000) k 1 1000 1 (pow-pos 0) (pow-pos 0) (lit≤ tt) (number-val k (le-trans hk (lit≤ tt))) (number-val 1000 (lit≤ tt)) in
     let r = rounded binary64 (k * 1) 1000 14 40 refl (lit≤ tt) (lit≤ tt) (small k hk) in
-    near-millis (div binary64 x thousand) s k (r .units) hs hk
-    (subst (λ (z : Float). HasValue z false (r .units) (2 ^ 1074)) (sym e) (r .is))
-    (subst (λ (z : ℕ). r .units * 1000 * 2 ^ 14 ≤ z * 2 ^ 1074 * 2 ^ 14 + 1000 * 2 ^ 1074) (mul-one k) (r .above))
-    (subst (λ (z : ℕ). z * 2 ^ 1074 * 2 ^ 14 ≤ r .units * 1000 * 2 ^ 14 + 1000 * 2 ^ 1074) (mul-one k) (r .below))
+    record {
+      units = r .units;
+      is = subst (λ (z : Float). HasValue z false (r .units) L) (sym e) (r .is);
+      above = up (r .units) (k * L) L (subst (λ (z : ℕ). r .units * 1000 * 2 ^ 14 ≤ z * L * 2 ^ 14 + 1000 * L) (mul-one k) (r .above));
+      below = up' (r .units) (k * L) L (subst (λ (z : ℕ). z * L * 2 ^ 14 ≤ r .units * 1000 * 2 ^ 14 + 1000 * L) (mul-one k) (r .below));
+    }
   where
-    small : (k : ℕ) → k ≤ 999 → k * 1 < 1000 * 2 ^ 40
+    small : (k : ℕ) → k ≤ 60000 → k * 1 < 1000 * 2 ^ 40
     small k h = omega arith
+
+    up : (g kL L : ℕ) → g * 1000 * 2 ^ 14 ≤ kL * 2 ^ 14 + 1000 * L → g * 1000 * 2 ^ 14 ≤ kL * 2 ^ 14 + 2 * 1000 * L
+    up g kL L h = omega arith
+
+    up' : (g kL L : ℕ) → kL * 2 ^ 14 ≤ g * 1000 * 2 ^ 14 + 1000 * L → kL * 2 ^ 14 ≤ g * 1000 * 2 ^ 14 + 2 * 1000 * L
+    up' g kL L h = omega arith
+
+-- ---- three decimals
+closest-is : (n u k : ℕ) → 0 < u → k * u * 2 < n * 2 + u → n * 2 < k * u * 2 + u → closest n u ≡ k
+closest-is n u k U lo hi =
+    let v = closest n u in
+    let h = closest-half n u U in
+    let a : v * u < suc k * u = lt-of-lt-of-le (less (v * u) n (k * u) u (h .1) hi) (le-of-eq (sym (suc-mul k u))) in
+    let b : k * u < suc v * u = lt-of-lt-of-le (less' (k * u) n (v * u) u lo (h .0)) (le-of-eq (sym (suc-mul v u))) in
+    le-antisymm (le-of-suc-le-suc (lt-of-mul-lt-mul-right u a)) (le-of-suc-le-suc (lt-of-mul-lt-mul-right u b))
+  where
+    less : (x n y u : ℕ) → x * 2 ≤ n * 2 + u → n * 2 < y * 2 + u → x < y + u
+    less x n y u a b = omega arith
+
+    less' : (x n y u : ℕ) → x * 2 < n * 2 + u → n * 2 ≤ y * 2 + u → x < y + u
+    less' x n y u a b = omega arith
+
+pub nearly-decimals : (x : Float) (k : ℕ) → Nearly x k 2 → decimals 3 x ≡ k
+nearly-decimals x k n =
+    let L = 2 ^ 1074 in
+    let g = n .units in
+    closest-same (num x * 1000) (den x) (g * 1000) L (den-pos x) (pow-pos 1074) (mul-right-comm (num x) 1000 L ∙ ap (λ (z : ℕ). z * 1000) (value→cross x g L (n .is)) ∙ mul-right-comm g (den x) 1000)
+    ∙ closest-is (g * 1000) L k (pow-pos 1074) (up L (k * L) (g * 1000) (pow-pos 1074) (n .below)) (down' L (k * L) (g * 1000) (pow-pos 1074) (n .above))
+  where
+    up : (L kL h : ℕ) → 0 < L → kL * 2 ^ 14 ≤ h * 2 ^ 14 + 2 * 1000 * L → kL * 2 < h * 2 + L
+    up L kL h p a = omega arith
+
+    down' : (L kL h : ℕ) → 0 < L → h * 2 ^ 14 ≤ kL * 2 ^ 14 + 2 * 1000 * L → h * 2 < kL * 2 + L
+    down' L kL h p a = omega arith

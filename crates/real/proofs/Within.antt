@@ -1,24 +1,26 @@
 -- A magnitude of at most y, for a y that is finite and not negative, stays so through each operation: f64's rounding keeps the order.
 -- So what comes of every number up to a limit is bounded by what comes of the limit, which is computed. Assumes nothing.
 use mathlib.Core.Path.{_≡_, refl, sym, ap, _∙_, subst}
+use mathlib.Core.Logic.{_⊎_, inl, inr}
 use Prim.Native.Nat.{ℕ, zero, suc, _+_, _-_, _*_, _/_, _^_, _≤_, _<_, min, zero-le}
-use native.Mathlib.Nat.{le-refl, le-trans, le-of-eq, le-of-lt, lt-of-lt-of-le, lt-of-le-of-lt, zero-mul, mul-one, mul-comm, mul-assoc, mul-left-comm, mul-right-comm, mul-mul-mul-comm, add-mul, add-le-add, mul-le-mul, mul-le-mul-right, mul-lt-mul-of-pos-right, lt-of-mul-lt-mul-right, mul-pos}
+use native.Mathlib.Nat.{le-refl, le-trans, le-of-eq, le-of-lt, eq-or-lt-of-le, lt-of-lt-of-le, lt-of-le-of-lt, zero-mul, mul-one, mul-comm, mul-assoc, mul-left-comm, mul-right-comm, mul-mul-mul-comm, add-mul, add-le-add, mul-le-mul, mul-le-mul-right, mul-lt-mul-of-pos-right, lt-of-mul-lt-mul-right, mul-pos}
 use native.Mathlib.Omega.{arith}
-use borrow.Author.Tests.{ltb-true, eqb-true, lt-ltb}
+use borrow.Author.Tests.{ltb-true, ltb-false, eqb-true, lt-ltb, le-ltb, eq-eqb, ne-eqb}
 use mathlib.Core.Bool.{Bool, true, false, not, _&&_, _||_, cond, true≢false}
-use lib.IntN.{ℤ, pos, negsuc, negℤ, natAbs}
-use lib.Dec.{T, ltb, eqb, leb}
-use lib.Ieee.{Float, nan, inf, fin, Format, binary64, prec, low, emax, up, down, odd, units, ofInt, round, neg, sum, add, sub, mul, lt, le, isNan, toSigned, toUnsigned}
-use lib.Ieee.Back.{round-whole}
+use lib.IntN.{pos, negℤ, natAbs}
+use lib.Dec.{T, ltb, eqb, ltb→lt}
+use lib.Pow.{pow-pos}
+use lib.Ieee.{Float, nan, inf, fin, Format, binary64, prec, low, emax, unlike, up, down, odd, units, ofInt, round, neg, sum, add, sub, mul, div, lt, le, isNan, toSigned, toUnsigned}
 use lib.Ieee.Exact.{HasValue}
-use lib.Ieee.Fits.{down-pos, round-is}
-use lib.Ieee.Nearest.{closest, closest-mono, div-mono}
-use lib.Ieee.Order.{round-mono, kept, drop}
-use lib.Ieee.Positive.{num, den, den-pos, value→cross}
+use lib.Ieee.Fits.{down-pos, up-pos, round-is}
+use lib.Ieee.Nearest.{closest-mono, div-mono}
+use lib.Ieee.Order.{round-mono, transfer, kept, drop}
+use lib.Ieee.Positive.{num, den, den-pos, value→cross, through, positive}
 use lib.Ieee.Scale.{finite}
 use Rattle.rules.specs.Basics.{if_then_else_}
-use Rattle.rules.specs.Floats.{number, half, within, below, decimals, cut, whole, _⊕_, _⊖_, _⊗_}
+use Rattle.rules.specs.Floats.{number, half, within, below, decimals, cut, whole, _⊕_, _⊖_, _⊗_, _⊘_}
 use Rattle.rules.specs.Modifiers.{rounded}
+use Rattle.real.proofs.Near.{number-val}
 use Rattle.real.proofs.Sign.{round-neg}
 
 -- finite, with no sign
@@ -179,6 +181,28 @@ within-add x y k l w v p =
     cross : (a c b d e f : ℕ) → a * d ≤ b * c → a * e * (d * f) ≤ b * f * (c * e)
     cross a c b d e f h = le-trans (le-of-eq (mul-mul-mul-comm a e d f)) (le-trans (mul-le-mul-right (e * f) h) (le-of-eq (ap (λ (z : ℕ). b * c * z) (mul-comm e f) ∙ mul-mul-mul-comm b c f e)))
 
+pub within-div : (x y k : Float) → Within x y → T (positive k) → T (plain (y ⊘ k)) → Within (x ⊘ k) (y ⊘ k)
+unfolding div
+within-div x y nan w k p = absurd k
+within-div x y (inf t) w k p = absurd k
+within-div x y (fin true n d) w k p = absurd k
+within-div nan y (fin false n d) w k p = absurd (w .finite-x)
+within-div (inf s) y (fin false n d) w k p = absurd (w .finite-x)
+within-div (fin s m e) nan (fin false n d) w k p = absurd (w .plain-y)
+within-div (fin s m e) (inf t) (fin false n d) w k p = absurd (w .plain-y)
+within-div (fin s m e) (fin true o f) (fin false n d) w k p = absurd (w .plain-y)
+within-div (fin s m e) (fin false o f) (fin false n d) w k p =
+    let N : 0 < n = ltb→lt 0 n k in
+    go (eqb n 0) (ne-eqb n 0 (λ z. omega arith)) (mul-pos N (up-pos d)) (cond (eqb m 0) nan (inf (unlike s false))) (cond (eqb o 0) nan (inf false)) p
+  where
+    cross : (a b c d e f : ℕ) → a * f ≤ b * e → a * d * (c * f) ≤ b * d * (c * e)
+    cross a b c d e f h = le-trans (le-of-eq (simp (mul-assoc, mul-comm, mul-left-comm))) (le-trans (mul-le-mul-right (c * d) h) (le-of-eq (simp (mul-assoc, mul-comm, mul-left-comm))))
+
+    go : (b : Bool) → b ≡ false → 0 < n * up d → (x y : Float) → T (plain (cond b y (round binary64 false (o * up f * down d) (n * up d * down f))))
+        → Within (cond b x (round binary64 (unlike s false) (m * up e * down d) (n * up d * down e))) (cond b y (round binary64 false (o * up f * down d) (n * up d * down f)))
+    go true z N x y p = absurd (true≢false z)
+    go false z N x y p = within-round (unlike s false) (m * up e * down d) (n * up d * down e) (o * up f * down d) (n * up d * down f) (mul-pos N (down-pos e)) (mul-pos N (down-pos f)) (cross (m * up e) (o * up f) (n * up d) (down d) (down e) (down f) (w .le)) p
+
 pub within-sub : (x y k l : Float) → Within x y → Within k l → T (plain (y ⊕ l)) → Within (x ⊖ k) (y ⊕ l)
 unfolding sub
 within-sub x y k l w v p = within-add x y (neg k) l w (within-neg k l v) p
@@ -216,7 +240,7 @@ decimals-within k x y w =
     closest-mono (num x * 10 ^ k) (den x) (num y * 10 ^ k) (den y) (den-pos x) (den-pos y)
     (le-trans (le-of-eq (mul-right-comm (num x) (10 ^ k) (den y))) (le-trans (mul-le-mul-right (10 ^ k) (w .le)) (le-of-eq (mul-right-comm (num y) (den x) (10 ^ k)))))
 
-half-plain : T (plain half)
+pub half-plain : T (plain half)
 unfolding round
 half-plain = tt
 
@@ -230,11 +254,11 @@ rounded-within x y w p =
     go false m n = n
 
 -- ---- what the tests say
-and-left : (a b : Bool) → (a && b) ≡ true → a ≡ true
+pub and-left : (a b : Bool) → (a && b) ≡ true → a ≡ true
 and-left true b e = refl
 and-left false b e = e
 
-and-right : (a b : Bool) → (a && b) ≡ true → b ≡ true
+pub and-right : (a b : Bool) → (a && b) ≡ true → b ≡ true
 and-right true b e = e
 and-right false b e = absurd (subst T (sym e) tt)
 
@@ -275,16 +299,40 @@ within-below (fin s m e) y (fin false n d) w p h = go s (lt-of-lt (m * up e) (n 
     go true l = rw (lt-ltb (m * up e * down d) (n * up d * down e) l) (lt-ltb 0 (m * up e * down d + n * up d * down e) (omega arith))
     go false l = rw (lt-ltb 0 (n * up d * down e + m * up e * down d) (omega arith)) (lt-ltb (m * up e * down d) (n * up d * down e) l)
 
--- a whole number is an f64 exactly, up to 2 ^ 53
-pub number-val : (k : ℕ) → k ≤ 2 ^ 53 → HasValue (number k) false k 1
-unfolding ofInt
-number-val k h = round-whole binary64 false k h
+-- no more than y
+pub not-above : (x y : Float) → T (plain x) → T (plain y) → lt y x ≡ false → Within x y
+unfolding lt
+not-above nan y p q h = absurd p
+not-above (inf s) y p q h = absurd p
+not-above (fin true m e) y p q h = absurd p
+not-above (fin false m e) nan p q h = absurd q
+not-above (fin false m e) (inf t) p q h = absurd q
+not-above (fin false m e) (fin true n d) p q h = absurd q
+not-above (fin false m e) (fin false n d) p q h = record { finite-x = tt; plain-y = tt; le = ltb-false (n * up d * down e) (m * up e * down d) h }
 
 pub plain-val : (x : Float) (a c : ℕ) → HasValue x false a c → T (plain x)
 plain-val nan a c v = absurd v
 plain-val (inf s) a c v = absurd v
 plain-val (fin true m e) a c v = absurd (true≢false (v .0))
 plain-val (fin false m e) a c v = tt
+
+pub number-plain : (k : ℕ) → k ≤ 2 ^ 53 → T (plain (number k))
+number-plain k h = plain-val (number k) k 1 (number-val k h)
+
+pub number-within : (a b : ℕ) → a ≤ b → b ≤ 2 ^ 53 → Within (number a) (number b)
+number-within a b h B =
+    let v = number-val a (le-trans h B) in
+    let w = number-val b B in
+    record {
+      finite-x = plain-finite (number a) (number-plain a (le-trans h B));
+      plain-y = number-plain b B;
+      le = transfer (num (number a)) (num (number b)) (den (number a)) (den (number b)) a b 1 1 (pow-pos 0) (pow-pos 0) (value→cross (number a) a 1 v) (value→cross (number b) b 1 w) (mul-le-mul-right 1 h);
+    }
+  where
+    plain-finite : (x : Float) → T (plain x) → T (finite x)
+    plain-finite nan p = absurd p
+    plain-finite (inf s) p = absurd p
+    plain-finite (fin s m e) p = tt
 
 pub below-number : (x : Float) (k : ℕ) → k ≤ 2 ^ 53 → below x (number k) ≡ true → T (finite x) × (num x < k * den x)
 below-number x k K h =
@@ -294,35 +342,101 @@ below-number x k K h =
     let e : num l ≡ k * den l = sym (mul-one (num l)) ∙ value→cross l k 1 v in
     (f, lt-of-mul-lt-mul-right (den l) (lt-of-lt-of-le s (le-of-eq (ap (λ (z : ℕ). z * den x) e ∙ mul-right-comm k (den l) (den x)))))
 
+le-or : (a b : ℕ) → (ltb a b || (eqb a b && true)) ≡ true → a ≤ b
+le-or a b e = lt-or-eq a b (subst T (sym e) tt)
+
+lt-le : (x y : Float) → lt x y ≡ true → le x y ≡ true
+unfolding le
+lt-le x y h = rw h
+
 -- from low up to l. A zero with a sign is level with 0.
-pub span-within : (low x l : Float) → T (plain low) → T (plain l) → within low x l ≡ true → Within x l × (num low * den x ≤ num x * den low)
+pub between : (low x l : Float) → T (plain low) → T (plain l) → le low x ≡ true → le x l ≡ true → Within x l × (num low * den x ≤ num x * den low)
 unfolding le lt
-span-within low x nan p q h = absurd q
-span-within low x (inf t) p q h = absurd q
-span-within low x (fin true n d) p q h = absurd q
-span-within nan x (fin false n d) p q h = absurd p
-span-within (inf t) x (fin false n d) p q h = absurd p
-span-within (fin true k f) x (fin false n d) p q h = absurd p
-span-within (fin false k f) nan (fin false n d) p q h = no h
-span-within (fin false k f) (inf true) (fin false n d) p q h = no h
-span-within (fin false k f) (inf false) (fin false n d) p q h = no h
-span-within (fin false k f) (fin true m e) (fin false n d) p q h =
+between low x nan p q g h = absurd q
+between low x (inf t) p q g h = absurd q
+between low x (fin true n d) p q g h = absurd q
+between nan x (fin false n d) p q g h = absurd p
+between (inf t) x (fin false n d) p q g h = absurd p
+between (fin true k f) x (fin false n d) p q g h = absurd p
+between (fin false k f) nan (fin false n d) p q g h = no h
+between (fin false k f) (inf true) (fin false n d) p q g h = no g
+between (fin false k f) (inf false) (fin false n d) p q g h = no h
+between (fin false k f) (fin true m e) (fin false n d) p q g h =
     let a = k * up f * down e in
     let b = m * up e * down f in
-    let t = and-left (eqb a b && eqb a 0) (ltb 0 (m * up e * down d + n * up d * down e)) h in
-    let ab = eqb-true a b (and-left (eqb a b) (eqb a 0) t) in
-    let z : m * up e ≡ 0 = none (m * up e) (down f) (down-pos f) (sym ab ∙ eqb-true a 0 (and-right (eqb a b) (eqb a 0) t)) in
+    let ab = eqb-true a b (and-left (eqb a b) (eqb a 0) g) in
+    let z : m * up e ≡ 0 = none (m * up e) (down f) (down-pos f) (sym ab ∙ eqb-true a 0 (and-right (eqb a b) (eqb a 0) g)) in
     (record { finite-x = tt; plain-y = tt; le = subst (λ (v : ℕ). v * down d ≤ n * up d * down e) (sym z) (subst (λ (v : ℕ). v ≤ n * up d * down e) (sym (zero-mul (down d))) zero-le) }, le-of-eq ab)
   where
     none : (a d : ℕ) → 0 < d → a * d ≡ 0 → a ≡ 0
     none zero d D e = refl
     none (suc a) d D e = absurd (omega (arith, mul-pos {m = suc a} {n = d} (omega arith) D))
-span-within (fin false k f) (fin false m e) (fin false n d) p q h =
-    let a = k * up f * down e in
-    let b = m * up e * down f in
-    let t = and-left (ltb a b || (eqb a b && true)) (ltb (m * up e * down d) (n * up d * down e)) h in
-    let u = and-right (ltb a b || (eqb a b && true)) (ltb (m * up e * down d) (n * up d * down e)) h in
-    (record { finite-x = tt; plain-y = tt; le = le-of-lt (ltb-true (m * up e * down d) (n * up d * down e) u) }, lt-or-eq a b (subst T (sym t) tt))
+between (fin false k f) (fin false m e) (fin false n d) p q g h =
+    (record { finite-x = tt; plain-y = tt; le = le-or (m * up e * down d) (n * up d * down e) h }, le-or (k * up f * down e) (m * up e * down f) g)
+
+pub span-within : (low x l : Float) → T (plain low) → T (plain l) → within low x l ≡ true → Within x l × (num low * den x ≤ num x * den low)
+span-within low x l p q h = between low x l p q (and-left (le low x) (lt x l) h) (lt-le x l (and-right (le low x) (lt x l) h))
+
+-- from -k up to l, for a k up to l
+pub around : (k x l : Float) → Within k l → T (plain k) → le (neg k) x ≡ true → le x l ≡ true → Within x l
+unfolding le lt neg
+around nan x l w p g h = absurd p
+around (inf t) x l w p g h = absurd p
+around (fin true k f) x l w p g h = absurd p
+around (fin false k f) x nan w p g h = absurd (w .plain-y)
+around (fin false k f) x (inf t) w p g h = absurd (w .plain-y)
+around (fin false k f) x (fin true n d) w p g h = absurd (w .plain-y)
+around (fin false k f) nan (fin false n d) w p g h = no g
+around (fin false k f) (inf true) (fin false n d) w p g h = no g
+around (fin false k f) (inf false) (fin false n d) w p g h = no h
+around (fin false k f) (fin true m e) (fin false n d) w p g h = record { finite-x = tt; plain-y = tt; le = through (m * up e) (k * up f) (n * up d) (down e) (down f) (down d) (down-pos f) (level (k * up f * down e) (m * up e * down f) g) (w .le) }
+  where
+    level : (a b : ℕ) → (ltb b a || (eqb a b && true)) ≡ true → b ≤ a
+    level a b e = go (ltb b a) (eqb a b) (ltb-true b a) (eqb-true a b) e
+      where
+        go : (x y : Bool) → (x ≡ true → b < a) → (y ≡ true → a ≡ b) → (x || (y && true)) ≡ true → b ≤ a
+        go true y p q e = le-of-lt (p refl)
+        go false true p q e = le-of-eq (sym (q refl))
+        go false false p q e = no e
+around (fin false k f) (fin false m e) (fin false n d) w p g h = record { finite-x = tt; plain-y = tt; le = le-or (m * up e * down d) (n * up d * down e) h }
+
+-- the other way
+pub within-le : (x y : Float) → T (plain x) → Within x y → le x y ≡ true
+unfolding le lt
+within-le nan y p w = absurd p
+within-le (inf s) y p w = absurd p
+within-le (fin true m e) y p w = absurd p
+within-le (fin false m e) nan p w = absurd (w .plain-y)
+within-le (fin false m e) (inf t) p w = absurd (w .plain-y)
+within-le (fin false m e) (fin true n d) p w = absurd (w .plain-y)
+within-le (fin false m e) (fin false n d) p w = go (m * up e * down d) (n * up d * down e) (eq-or-lt-of-le (w .le))
+  where
+    go : (a b : ℕ) → (a ≡ b) ⊎ (a < b) → (ltb a b || (eqb a b && true)) ≡ true
+    go a b (inl e) = rw (le-ltb a b (le-of-eq (sym e)), eq-eqb a b e)
+    go a b (inr l) = rw (lt-ltb a b l)
+
+pub not-below : (x : Float) → T (plain x) → le (number 0) x ≡ true
+unfolding ofInt round
+not-below nan p = absurd p
+not-below (inf s) p = absurd p
+not-below (fin true m e) p = absurd p
+not-below (fin false m e) p = within-le (number 0) (fin false m e) tt (record { finite-x = tt; plain-y = tt; le = omega arith })
+
+-- ---- what is finite and rounded without a sign is plain
+pub plain-round : (a c : ℕ) → T (finite (round binary64 false a c)) → T (plain (round binary64 false a c))
+plain-round a c f = go (round binary64 false a c) (round-unsigned a c) f
+  where
+    go : (x : Float) → T (unsigned x) → T (finite x) → T (plain x)
+    go nan u f = absurd f
+    go (inf s) u f = absurd f
+    go (fin true m e) u f = absurd u
+    go (fin false m e) u f = tt
+
+pub plain-mul : (x y : Float) → T (plain x) → T (plain y) → T (finite (x ⊗ y)) → T (plain (x ⊗ y))
+plain-mul x y p q f = let e = mul-is x y p q in subst (λ (z : Float). T (plain z)) (sym e) (plain-round (num x * num y) (den x * den y) (subst (λ (z : Float). T (finite z)) e f))
+
+pub plain-add : (x y : Float) → T (plain x) → T (plain y) → T (finite (x ⊕ y)) → T (plain (x ⊕ y))
+plain-add x y p q f = let e = add-is x y p q in subst (λ (z : Float). T (plain z)) (sym e) (plain-round (num x * den y + num y * den x) (den x * den y) (subst (λ (z : Float). T (finite z)) e f))
 
 pub not-nan : (x : Float) → T (finite x) → T (not (isNan x))
 unfolding isNan

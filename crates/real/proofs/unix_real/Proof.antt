@@ -1,14 +1,14 @@
 -- `real::unix_real` meets its contract: an integer below 0 is its size, negated. Assumes nothing.
 use borrow.Author.Needs.{needs}
-use mathlib.Core.Path.{_≡_, sym, ap, _∙_}
-use Prim.Native.Nat.{ℕ, zero, suc, _-_, _<_}
+use mathlib.Core.Path.{_≡_, ap, _∙_}
+use Prim.Native.Nat.{ℕ, suc, _-_, _<_}
 use native.Mathlib.Omega.{arith}
-use mathlib.Core.Bool.{true}
 use lib.IntN.{pos, negsuc}
-use lib.Ieee.{binary64, ofInt, neg, round}
+use lib.Ieee.{binary64, ofInt, neg}
+use Rattle.rules.specs.Floats.{number}
 use Rattle.rules.specs.Writing.{unixReal}
 use Rattle.real.proofs.Literals.{thousand}
-use Rattle.real.proofs.Sign.{round-neg}
+use Rattle.real.proofs.Sign.{number-neg}
 use Rattle.real.proofs.Signs.{minus-pos, minus-neg}
 use Rattle.real.proofs.unix_real.Statement.{statement}
 use Rattle.real.proofs.unix_real.Tie as tie
@@ -27,8 +27,7 @@ unfolding unixReal
 returns c = rw (thousand, c .nearest-u64-to-f64 .ensures, minus-pos (c .before .before .args .ms) 9223582903614775808 (c .before .if1 .taken))
 
 negated : (a b : ℕ) → a < b → neg (ofInt binary64 (pos (b - a))) ≡ ofInt binary64 (negsuc (b - suc a))
-unfolding ofInt
-negated a b h = let e : b - a ≡ suc (b - suc a) = omega arith in round-neg binary64 (b - a) 1 ∙ ap (λ (n : ℕ). round binary64 true n 1) e
+negated a b h = let e : b - a ≡ suc (b - suc a) = omega arith in ap (λ (n : ℕ). neg (number n)) e ∙ number-neg (b - suc a)
 
 returns-2 : tie.Need-returns-2
 unfolding unixReal

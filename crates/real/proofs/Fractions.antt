@@ -1,23 +1,29 @@
--- The fraction of a second, digit by digit in f64: how far its value is from the exact one, for any digits. Assumes nothing.
+-- The fraction of a second, digit by digit in f64: how far it is from the exact one, for any digits; and that whole milliseconds come out
+-- exact. Assumes nothing.
 use mathlib.Core.Path.{_≡_, refl, sym, ap, _∙_, subst}
-use mathlib.Core.Logic.{_⊎_, inl, inr}
+use mathlib.Core.Logic.{inl, inr}
 use mathlib.Core.List.{List, [], _∷_}
-use Prim.Native.Nat.{ℕ, zero, suc, _+_, _-_, _*_, _/_, _%_, _^_, _≤_, _<_}
-use native.Mathlib.Nat.{one-le-pow, zero-add, eq-or-lt-of-le, le-of-suc-le-suc, lt-of-mul-lt-mul-right, pow-le-pow-right, add-zero, add-suc, suc-add, le-add-right, le-refl, le-trans, le-of-eq, le-of-lt, le-antisymm, lt-of-lt-of-le, lt-of-le-of-lt, mul-one, one-mul, mul-comm, mul-assoc, mul-left-comm, mul-right-comm, add-mul, mul-add, mul-le-mul-right, mul-le-mul-left, mul-le-mul, le-of-mul-le-mul-right, mul-lt-mul-of-pos-right, mul-pos, mul-div-cancel, pow-suc}
+use Prim.Native.Nat.{ℕ, suc, _+_, _-_, _*_, _/_, _^_, _≤_, _<_}
+use native.Mathlib.Nat.{one-le-pow, zero-add, eq-or-lt-of-le, le-of-suc-le-suc, lt-of-mul-lt-mul-right, pow-le-pow-right, add-zero, add-suc, suc-add, le-add-right, le-refl, le-trans, le-of-eq, le-of-lt, lt-of-lt-of-le, lt-of-le-of-lt, mul-one, mul-comm, mul-assoc, mul-left-comm, mul-right-comm, add-mul, mul-add, mul-le-mul-right, mul-le-mul-left, mul-le-mul, le-of-mul-le-mul-right, mul-lt-mul-of-pos-right, mul-pos, mul-div-cancel, pow-suc}
 use native.Mathlib.Omega.{arith}
-use mathlib.Core.Bool.{Bool, true, false, not, cond, true≢false}
+use mathlib.Core.Bool.{Bool, true, false, not, true≢false}
+use borrow.Author.Tests.{ltb-true}
 use lib.Dec.{T, lit≤, ltb, ltb→lt, nltb→le}
-use lib.IntN.{ℤ, pos, negsuc}
-use lib.Pow.{pow-add, pow-pos, pow-mono, pow-lt}
-use lib.Ieee.{Float, nan, inf, fin, Format, binary64, prec, emax, low, up, down, size, round, add, mul, div, ofInt, lt, toUnsigned}
-use lib.Ieee.Digits.{size-le, size-lt, size-reaches}
+use lib.Pow.{pow-add, pow-pos}
+use lib.Ieee.{Float, nan, inf, fin, Format, binary64, prec, low, up, down, size, round, lt}
+use lib.Ieee.Digits.{size-reaches}
 use lib.Ieee.Exact.{HasValue}
 use lib.Ieee.Nearest.{closest}
-use lib.Ieee.Order.{drop, kept}
 use lib.Ieee.Scale.{grid, overflow, round-val, round-same}
 use lib.ListN.{length}
-use Rattle.real.proofs.Near.{Half, scale-half, closest-half, add-at, mul-at, div-at, value-same, rounded}
-use Rattle.real.proofs.Millis.{ofInt-val, to-units, millis, near-millis}
+use Rattle.rules.specs.Basics.{if_then_else_}
+use Rattle.rules.specs.Floats.{number, ratio, _⊕_, _⊗_, _⊘_}
+use Rattle.rules.specs.Decimal.{value}
+use Rattle.rules.specs.Reading.{digitSum, scale, fractionOf}
+use Rattle.real.proofs.Near.{Half, scale-half, closest-half, add-at, mul-at, div-at, number-val, Rounded, rounded}
+use Rattle.real.proofs.Millis.{to-units, Nearly}
+use Rattle.real.proofs.Run.{Digits}
+use Rattle.real.proofs.Within.{Within, plain, plain-val, within-self, not-above}
 
 -- ---- in units, `round` moves a number by at most its 2 ^ -53rd part
 half-of : (L a g x : ℕ) → 0 < L → a * L * 2 ≤ g * L * 2 + L * x → a * 2 ≤ g * 2 + x
@@ -116,31 +122,22 @@ round-at a v e h b c =
     le-four : (a g W : ℕ) → g ≤ a * 2 → a ≤ W * 2 → g ≤ W * 4
     le-four a g W x y = omega arith
 
-abbrev pub ten : Float
-ten = fin false 5 (pos 1)
-
-unfoldable pub step : Float → ℕ → Float
-unfolding add mul ofInt
-step x d = add binary64 (mul binary64 x ten) (ofInt binary64 (pos d))
-
 ten-units : (v L : ℕ) → v * L * 10 ≡ v * 10 * L
 ten-units v L = mul-right-comm v L 10
 
-mul-ten : (x : Float) (v e : ℕ) → e ≤ 2 ^ 53 → v * 10 * 4 < 2 ^ 1024 → At x v e → At (mul binary64 x ten) (v * 10) (e + 2)
+mul-ten : (x : Float) (v e : ℕ) → e ≤ 2 ^ 53 → v * 10 * 4 < 2 ^ 1024 → At x v e → At (x ⊗ number 10) (v * 10) (e + 2)
 mul-ten x v e h b a =
     let L = 2 ^ 1074 in
-    let q : mul binary64 x ten ≡ round binary64 false (a .units * 10) L = mul-at binary64 x ten (a .units) L 10 1 (pow-pos 1074) (pow-pos 0) (a .is) (refl, refl) ∙ ap (λ (z : ℕ). round binary64 false (a .units * 10) z) (mul-one L) in
+    let q : x ⊗ number 10 ≡ round binary64 false (a .units * 10) L = mul-at binary64 x (number 10) (a .units) L 10 1 (pow-pos 1074) (pow-pos 0) (a .is) (number-val 10 (lit≤ tt)) ∙ ap (λ (z : ℕ). round binary64 false (a .units * 10) z) (mul-one L) in
     subst (λ (z : Float). At z (v * 10) (e + 2)) (sym q)
     (round-at (a .units * 10) (v * 10) e h b (subst (λ (z : ℕ). Close e z (a .units * 10)) (ten-units v L) (close-ten e (v * L) (a .units) (a .close))))
 
-pub step-at : (x : Float) (v e d : ℕ) → e + 2 ≤ 2 ^ 53 → d ≤ 9 → (v * 10 + d) * 4 < 2 ^ 1024 → At x v e → At (step x d) (v * 10 + d) (e + 2 + 2)
-unfolding step
+step-at : (x : Float) (v e d : ℕ) → e + 2 ≤ 2 ^ 53 → d ≤ 9 → (v * 10 + d) * 4 < 2 ^ 1024 → At x v e → At (x ⊗ number 10 ⊕ number d) (v * 10 + d) (e + 2 + 2)
 step-at x v e d h D b a =
     let L = 2 ^ 1074 in
-    let y = mul binary64 x ten in
-    let i = ofInt binary64 (pos d) in
+    let y = x ⊗ number 10 in
     let m : At y (v * 10) (e + 2) = mul-ten x v e (weaker e h) (lt-of-le-of-lt (mul-le-mul-right 4 (le-add-right (v * 10) d)) b) a in
-    let q : add binary64 y i ≡ round binary64 false (m .units + d * L) L = add-at binary64 y i (m .units) (d * L) L (pow-pos 1074) (m .is) (to-units i d (ofInt-val d (lt-of-le-of-lt D (lit≤ tt)))) in
+    let q : y ⊕ number d ≡ round binary64 false (m .units + d * L) L = add-at binary64 y (number d) (m .units) (d * L) L (pow-pos 1074) (m .is) (to-units (number d) d (number-val d (le-trans D (lit≤ tt)))) in
     subst (λ (z : Float). At z (v * 10 + d) (e + 2 + 2)) (sym q)
     (round-at (m .units + d * L) (v * 10 + d) (e + 2) h b
     (subst (λ (z : ℕ). Close (e + 2) z (m .units + d * L)) (sym (add-mul (v * 10) d L)) (close-add (e + 2) (v * 10 * L) (m .units) (d * L) (m .close))))
@@ -148,27 +145,11 @@ step-at x v e d h D b a =
     weaker : (e : ℕ) → e + 2 ≤ 2 ^ 53 → e ≤ 2 ^ 53
     weaker e h = omega arith
 
--- ---- digit by digit
-abbrev pub numOf : List ℕ → ℕ → ℕ
-numOf [] v = v
-numOf (d ∷ ds) v = numOf ds (v * 10 + d)
-
-abbrev pub sumOf : List ℕ → Float → Float
-sumOf [] x = x
-sumOf (d ∷ ds) x = sumOf ds (step x d)
-
-abbrev pub scaleOf : List ℕ → Float → Float
-scaleOf [] x = x
-scaleOf (d ∷ ds) x = scaleOf ds (mul binary64 x ten)
-
-abbrev pub Digits : List ℕ → Type 0
-Digits [] = Unit {0}
-Digits (d ∷ ds) = (d ≤ 9) × Digits ds
-
+-- ---- digit by digit, for up to 255 of them
 more : (v d p : ℕ) → v < p → d ≤ 9 → v * 10 + d < p * 10
 more v d p h k = omega arith
 
-parts : (n m : ℕ) → n ≤ m → m ≤ 235 → 4 * n + 2 ≤ 2 ^ 53
+parts : (n m : ℕ) → n ≤ m → m ≤ 255 → 4 * n + 2 ≤ 2 ^ 53
 parts n m h k = omega arith
 
 four : (n : ℕ) → 4 * n + 2 + 2 ≡ 4 * suc n
@@ -177,40 +158,42 @@ four n = omega arith
 two : (n : ℕ) → 2 * n + 2 ≡ 2 * suc n
 two n = omega arith
 
-parts' : (n m : ℕ) → n ≤ m → m ≤ 235 → 2 * n ≤ 2 ^ 53
+parts' : (n m : ℕ) → n ≤ m → m ≤ 255 → 2 * n ≤ 2 ^ 53
 parts' n m h k = omega arith
 
 ten-le : (n m : ℕ) → n ≤ m → 10 ^ n ≤ 10 ^ m
 ten-le n m h = pow-le-pow-right (lit≤ tt) h
 
-at-most : (n l m : ℕ) → suc n + l ≡ m → m ≤ 235 → suc n ≤ 235
+at-most : (n l m : ℕ) → suc n + l ≡ m → m ≤ 255 → suc n ≤ 255
 at-most n l m h k = omega arith
 
 before : (n l m : ℕ) → n + l ≡ m → n ≤ m
 before n l m h = omega arith
 
-room-for : (w n l m : ℕ) → suc n + l ≡ m → m ≤ 235 → w ≤ 10 ^ suc n → w * 4 < 2 ^ 1024
-room-for w n l m h k b = lt-of-le-of-lt (mul-le-mul-right 4 (le-trans b (ten-le (suc n) 235 (at-most n l m h k)))) (lit≤ tt)
+room-for : (w n l m : ℕ) → suc n + l ≡ m → m ≤ 255 → w ≤ 10 ^ suc n → w * 4 < 2 ^ 1024
+room-for w n l m h k b = lt-of-le-of-lt (mul-le-mul-right 4 (le-trans b (ten-le (suc n) 255 (at-most n l m h k)))) (lit≤ tt)
 
-pub fold-at : (ds : List ℕ) (x : Float) (v n m : ℕ) → Digits ds → At x v (4 * n) → v < 10 ^ n → n + length ds ≡ m → m ≤ 235 → At (sumOf ds x) (numOf ds v) (4 * m) × (numOf ds v < 10 ^ m)
+fold-at : (ds : List ℕ) (x : Float) (v n m : ℕ) → Digits ds → At x v (4 * n) → v < 10 ^ n → n + length ds ≡ m → m ≤ 255 → At (digitSum x ds) (value v ds) (4 * m) × (value v ds < 10 ^ m)
+unfolding digitSum value
 fold-at [] x v n m D a b e h =
     let i : n ≡ m = sym (add-zero n) ∙ e in
     (subst (λ (z : ℕ). At x v (4 * z)) i a, subst (λ (z : ℕ). v < 10 ^ z) i b)
 fold-at (d ∷ ds) x v n m D a b e h =
     let e' : suc n + length ds ≡ m = suc-add n (length ds) ∙ sym (add-suc n (length ds)) ∙ e in
     let b' : v * 10 + d < 10 ^ suc n = lt-of-lt-of-le (more v d (10 ^ n) b (D .0)) (le-of-eq (sym (pow-suc 10 n))) in
-    fold-at ds (step x d) (v * 10 + d) (suc n) m (D .1)
-    (subst (λ (z : ℕ). At (step x d) (v * 10 + d) z) (four n) (step-at x v (4 * n) d (parts n m (before n (length (d ∷ ds)) m e) h) (D .0) (room-for (v * 10 + d) n (length ds) m e' h (le-of-lt b')) a))
+    fold-at ds (x ⊗ number 10 ⊕ number d) (v * 10 + d) (suc n) m (D .1)
+    (subst (λ (z : ℕ). At (x ⊗ number 10 ⊕ number d) (v * 10 + d) z) (four n) (step-at x v (4 * n) d (parts n m (before n (length (d ∷ ds)) m e) h) (D .0) (room-for (v * 10 + d) n (length ds) m e' h (le-of-lt b')) a))
     b' e' h
 
-pub scale-at : (ds : List ℕ) (x : Float) (n m : ℕ) → At x (10 ^ n) (2 * n) → n + length ds ≡ m → m ≤ 235 → At (scaleOf ds x) (10 ^ m) (2 * m)
+scale-at : (ds : List ℕ) (x : Float) (n m : ℕ) → At x (10 ^ n) (2 * n) → n + length ds ≡ m → m ≤ 255 → At (scale x ds) (10 ^ m) (2 * m)
+unfolding scale
 scale-at [] x n m a e h = subst (λ (z : ℕ). At x (10 ^ z) (2 * z)) (sym (add-zero n) ∙ e) a
 scale-at (d ∷ ds) x n m a e h =
     let e' : suc n + length ds ≡ m = suc-add n (length ds) ∙ sym (add-suc n (length ds)) ∙ e in
     let s : 10 ^ n * 10 ≡ 10 ^ suc n = sym (pow-suc 10 n) in
-    scale-at ds (mul binary64 x ten) (suc n) m
-    (subst (λ (z : ℕ). At (mul binary64 x ten) z (2 * suc n)) s
-    (subst (λ (z : ℕ). At (mul binary64 x ten) (10 ^ n * 10) z) (two n) (mul-ten x (10 ^ n) (2 * n) (parts' n m (before n (length (d ∷ ds)) m e) h) (room-for (10 ^ n * 10) n (length ds) m e' h (le-of-eq s)) a)))
+    scale-at ds (x ⊗ number 10) (suc n) m
+    (subst (λ (z : ℕ). At (x ⊗ number 10) z (2 * suc n)) s
+    (subst (λ (z : ℕ). At (x ⊗ number 10) (10 ^ n * 10) z) (two n) (mul-ten x (10 ^ n) (2 * n) (parts' n m (before n (length (d ∷ ds)) m e) h) (room-for (10 ^ n * 10) n (length ds) m e' h (le-of-eq s)) a)))
     e' h
 
 -- ---- the quotient
@@ -237,13 +220,6 @@ coarse e W g eW h a = omega arith
 coarse' : (e W g eW : ℕ) → eW ≤ 2 ^ 30 * W → W * 2 ^ 53 ≤ g * 2 ^ 53 + eW → W * 2 ^ 23 ≤ g * 2 ^ 23 + W
 coarse' e W g eW h a = omega arith
 
--- ---- r is near k / 1000, as `near-millis` asks
-pub record Near1000 (r : Float) (k : ℕ) : Type 0 where
-  pub units : ℕ
-  pub is : HasValue r false units (2 ^ 1074)
-  pub above : units * 1000 * 2 ^ 14 ≤ k * 2 ^ 1074 * 2 ^ 14 + 1000 * 2 ^ 1074
-  pub below : k * 2 ^ 1074 * 2 ^ 14 ≤ units * 1000 * 2 ^ 14 + 1000 * 2 ^ 1074
-
 fine : (e w : ℕ) → e ≤ 2 ^ 30 → e * w ≤ 2 ^ 30 * w
 fine e w h = mul-le-mul-right w h
 
@@ -265,65 +241,73 @@ scaled-down L x y z h =
     le-trans (le-of-eq (mul-right-comm y L (2 ^ 23)))
     (le-trans (mul-le-mul-right L h) (le-of-eq (add-mul (x * 1000 * 2 ^ 23) (4000 * z) L ∙ ap (λ (u : ℕ). u + 4000 * z * L) (mul-right-comm (x * 1000) (2 ^ 23) L ∙ ap (λ (u : ℕ). u * 2 ^ 23) (mul-right-comm x 1000 L)) ∙ ap (λ (u : ℕ). x * L * 1000 * 2 ^ 23 + u) (mul-assoc 4000 z L))))
 
-pub quotient-near : (x y : Float) (v s k em es : ℕ) → At x v em → At y s es → em ≤ 2 ^ 30 → es ≤ 2 ^ 30 → 0 < s → v ≤ s → k ≤ 1000 → 1000 * v ≡ k * s → Near1000 (div binary64 x y) k
-quotient-near x y v s k em es a b he hs sp vs kk e =
+-- the sum of the digits by their scale: neither overflows
+divided : (x y : Float) (v s em es : ℕ) (a : At x v em) (b : At y s es) → em ≤ 2 ^ 30 → es ≤ 2 ^ 30 → 0 < s → v ≤ s → (0 < b .units) × Rounded binary64 (a .units) (b .units) 20 (x ⊘ y)
+divided x y v s em es a b he hs sp vs =
     let L = 2 ^ 1074 in
     let P : 0 < L = pow-pos 1074 in
     let gm = a .units in
     let gs = b .units in
     let X = v * L in
     let Y = s * L in
-    let Yp : 0 < Y = mul-pos sp P in
+    let mu : gm * 2 ^ 23 ≤ X * 2 ^ 23 + X = coarse em X gm (em * X) (fine em X he) (a .close .0) in
+    let sd : Y * 2 ^ 23 ≤ gs * 2 ^ 23 + Y = coarse' es Y gs (es * Y) (fine es Y hs) (b .close .1) in
+    let G : 0 < gs = positive gs Y (mul-pos sp P) sd in
+    let q : x ⊘ y ≡ round binary64 false gm gs = div-at binary64 x y gm L gs L P P G (a .is) (b .is) ∙ round-same binary64 false (gm * L) (L * gs) gm gs (mul-pos P G) G (mul-assoc gm L gs) in
+    (G, subst (λ (z : Float). Rounded binary64 gm gs 20 z) (sym q) (rounded binary64 gm gs 20 34 refl (lit≤ tt) G (less gm gs X Y G (mul-le-mul-right L vs) mu sd)))
+
+quotient-near : (x y : Float) (v s k em es : ℕ) → At x v em → At y s es → em ≤ 2 ^ 30 → es ≤ 2 ^ 30 → 0 < s → v ≤ s → k ≤ 1000 → 1000 * v ≡ k * s → Nearly (x ⊘ y) k 1
+quotient-near x y v s k em es a b he hs sp vs kk e =
+    let L = 2 ^ 1074 in
+    let gm = a .units in
+    let gs = b .units in
+    let X = v * L in
+    let Y = s * L in
     let mu : gm * 2 ^ 23 ≤ X * 2 ^ 23 + X = coarse em X gm (em * X) (fine em X he) (a .close .0) in
     let md : X * 2 ^ 23 ≤ gm * 2 ^ 23 + X = coarse' em X gm (em * X) (fine em X he) (a .close .1) in
     let su : gs * 2 ^ 23 ≤ Y * 2 ^ 23 + Y = coarse es Y gs (es * Y) (fine es Y hs) (b .close .0) in
     let sd : Y * 2 ^ 23 ≤ gs * 2 ^ 23 + Y = coarse' es Y gs (es * Y) (fine es Y hs) (b .close .1) in
-    let G : 0 < gs = positive gs Y Yp sd in
     let kX : 1000 * X ≡ k * Y = sym (mul-assoc 1000 v L) ∙ ap (λ (z : ℕ). z * L) e ∙ mul-assoc k s L in
     let k1 : k * Y ≤ k * gs * 2 = le-trans (mul-le-mul-left k (twice gs Y sd)) (le-of-eq (sym (mul-assoc k gs 2))) in
     let k2 : k * gs ≤ 1000 * gs = mul-le-mul-right gs kk in
-    let k3 : k * Y * 2 ^ 23 ≤ k * gs * 2 ^ 23 + k * Y = times k Y (gs * 2 ^ 23) Y gs sd in
-    let k4 : k * gs * 2 ^ 23 ≤ k * Y * 2 ^ 23 + k * Y = times' k Y gs su in
-    let cu = cross-up gm gs X Y k (k * Y) (k * gs) kX mu k3 k1 k2 in
-    let cd = cross-down gm gs X Y k (k * Y) (k * gs) kX md k4 k1 k2 in
-    let q : div binary64 x y ≡ round binary64 false gm gs = div-at binary64 x y gm L gs L P P G (a .is) (b .is) ∙ round-same binary64 false (gm * L) (L * gs) gm gs (mul-pos P G) G (mul-assoc gm L gs) in
-    let r = rounded binary64 gm gs 20 34 refl (lit≤ tt) G (less gm gs X Y G (mul-le-mul-right L vs) mu sd) in
+    let cu = cross-up gm gs X Y k (k * Y) (k * gs) kX mu (times k Y gs sd) k1 k2 in
+    let cd = cross-down gm gs X Y k (k * Y) (k * gs) kX md (times' k Y gs su) k1 k2 in
+    let (G, r) = divided x y v s em es a b he hs sp vs in
     let nu = near-up (r .units * gs) (gm * L) (gs * L) (k * gs * L) (r .above) (scaled-up L gm (k * gs) gs cu) in
     let nd = near-down (r .units * gs) (gm * L) (gs * L) (k * gs * L) (r .below) (scaled-down L gm (k * gs) gs cd) in
-    record {
-      units = r .units;
-      is = subst (λ (z : Float). HasValue z false (r .units) L) (sym q) (r .is);
-      above = cancel-up L (r .units) gs k G nu;
-      below = cancel-down L (r .units) gs k G nd;
-    }
+    record { units = r .units; is = r .is; above = cancel-up L (r .units) gs k G nu; below = cancel-down L (r .units) gs k G nd }
   where
-    times : (k Y z Y' gs : ℕ) → Y * 2 ^ 23 ≤ gs * 2 ^ 23 + Y → k * Y * 2 ^ 23 ≤ k * gs * 2 ^ 23 + k * Y
-    times k Y z Y' gs h = le-trans (le-of-eq (mul-assoc k Y (2 ^ 23))) (le-trans (mul-le-mul-left k h) (le-of-eq (mul-add k (gs * 2 ^ 23) Y ∙ ap (λ (u : ℕ). u + k * Y) (sym (mul-assoc k gs (2 ^ 23))))))
+    times : (k Y gs : ℕ) → Y * 2 ^ 23 ≤ gs * 2 ^ 23 + Y → k * Y * 2 ^ 23 ≤ k * gs * 2 ^ 23 + k * Y
+    times k Y gs h = le-trans (le-of-eq (mul-assoc k Y (2 ^ 23))) (le-trans (mul-le-mul-left k h) (le-of-eq (mul-add k (gs * 2 ^ 23) Y ∙ ap (λ (u : ℕ). u + k * Y) (sym (mul-assoc k gs (2 ^ 23))))))
 
     times' : (k Y gs : ℕ) → gs * 2 ^ 23 ≤ Y * 2 ^ 23 + Y → k * gs * 2 ^ 23 ≤ k * Y * 2 ^ 23 + k * Y
     times' k Y gs h = le-trans (le-of-eq (mul-assoc k gs (2 ^ 23))) (le-trans (mul-le-mul-left k h) (le-of-eq (mul-add k (Y * 2 ^ 23) Y ∙ ap (λ (u : ℕ). u + k * Y) (sym (mul-assoc k Y (2 ^ 23))))))
 
-    cancel-up : (L g gs k : ℕ) → 0 < gs → g * gs * 1000 * 2 ^ 14 ≤ k * gs * L * 2 ^ 14 + 1000 * (gs * L) → g * 1000 * 2 ^ 14 ≤ k * L * 2 ^ 14 + 1000 * L
+    cancel-up : (L g gs k : ℕ) → 0 < gs → g * gs * 1000 * 2 ^ 14 ≤ k * gs * L * 2 ^ 14 + 1000 * (gs * L) → g * 1000 * 2 ^ 14 ≤ k * L * 2 ^ 14 + 1 * 1000 * L
     cancel-up L g gs k p h =
         le-of-mul-le-mul-right
         (le-trans (le-of-eq (mul-right-comm (g * 1000) (2 ^ 14) gs ∙ ap (λ (u : ℕ). u * 2 ^ 14) (mul-right-comm g 1000 gs)))
-        (le-trans h (le-of-eq (sym (add-mul (k * L * 2 ^ 14) (1000 * L) gs ∙ ap (λ (u : ℕ). u + 1000 * L * gs) (mul-right-comm (k * L) (2 ^ 14) gs ∙ ap (λ (u : ℕ). u * 2 ^ 14) (mul-right-comm k L gs)) ∙ ap (λ (u : ℕ). k * gs * L * 2 ^ 14 + u) (mul-assoc 1000 L gs ∙ ap (λ (u : ℕ). 1000 * u) (mul-comm L gs))))))) p
+        (le-trans h (le-of-eq (sym (add-mul (k * L * 2 ^ 14) (1 * 1000 * L) gs ∙ ap (λ (u : ℕ). u + 1 * 1000 * L * gs) (mul-right-comm (k * L) (2 ^ 14) gs ∙ ap (λ (u : ℕ). u * 2 ^ 14) (mul-right-comm k L gs)) ∙ ap (λ (u : ℕ). k * gs * L * 2 ^ 14 + u) (mul-assoc 1000 L gs ∙ ap (λ (u : ℕ). 1000 * u) (mul-comm L gs))))))) p
 
-    cancel-down : (L g gs k : ℕ) → 0 < gs → k * gs * L * 2 ^ 14 ≤ g * gs * 1000 * 2 ^ 14 + 1000 * (gs * L) → k * L * 2 ^ 14 ≤ g * 1000 * 2 ^ 14 + 1000 * L
+    cancel-down : (L g gs k : ℕ) → 0 < gs → k * gs * L * 2 ^ 14 ≤ g * gs * 1000 * 2 ^ 14 + 1000 * (gs * L) → k * L * 2 ^ 14 ≤ g * 1000 * 2 ^ 14 + 1 * 1000 * L
     cancel-down L g gs k p h =
         le-of-mul-le-mul-right
         (le-trans (le-of-eq (mul-right-comm (k * L) (2 ^ 14) gs ∙ ap (λ (u : ℕ). u * 2 ^ 14) (mul-right-comm k L gs)))
-        (le-trans h (le-of-eq (sym (add-mul (g * 1000 * 2 ^ 14) (1000 * L) gs ∙ ap (λ (u : ℕ). u + 1000 * L * gs) (mul-right-comm (g * 1000) (2 ^ 14) gs ∙ ap (λ (u : ℕ). u * 2 ^ 14) (mul-right-comm g 1000 gs)) ∙ ap (λ (u : ℕ). g * gs * 1000 * 2 ^ 14 + u) (mul-assoc 1000 L gs ∙ ap (λ (u : ℕ). 1000 * u) (mul-comm L gs))))))) p
+        (le-trans h (le-of-eq (sym (add-mul (g * 1000 * 2 ^ 14) (1 * 1000 * L) gs ∙ ap (λ (u : ℕ). u + 1 * 1000 * L * gs) (mul-right-comm (g * 1000) (2 ^ 14) gs ∙ ap (λ (u : ℕ). u * 2 ^ 14) (mul-right-comm g 1000 gs)) ∙ ap (λ (u : ℕ). g * gs * 1000 * 2 ^ 14 + u) (mul-assoc 1000 L gs ∙ ap (λ (u : ℕ). 1000 * u) (mul-comm L gs))))))) p
 
--- ---- above 0.999 becomes 0.999
-abbrev pub most : Float
-most = fin false 8998192055486251 (negsuc 52)
+-- ---- "above 0.999 becomes 0.999"
+abbrev most : Float
+most = ratio 999 1000
 
-unfoldable pub capped : Float → Float
-unfolding lt
-capped q = cond (lt most q) most q
+pub most-near : Nearly most 999 1
+unfolding round
+most-near = record { units = 8998192055486251 * 2 ^ 1021; is = (refl, refl); above = lit≤ tt; below = lit≤ tt }
 
-pub lt-units : (x y : Float) (a b c : ℕ) → 0 < c → HasValue x false a c → HasValue y false b c → T (lt x y) → a < b
+most-plain : T (plain most)
+unfolding round
+most-plain = tt
+
+lt-units : (x y : Float) (a b c : ℕ) → 0 < c → HasValue x false a c → HasValue y false b c → lt x y ≡ true → a < b
 unfolding lt
 lt-units nan y a b c C p q t = absurd p
 lt-units (inf s) y a b c C p q t = absurd p
@@ -332,67 +316,78 @@ lt-units (fin false m e) nan a b c C p q t = absurd q
 lt-units (fin false m e) (inf u) a b c C p q t = absurd q
 lt-units (fin false m e) (fin true n d) a b c C p q t = absurd (true≢false (q .0))
 lt-units (fin false m e) (fin false n d) a b c C p q t =
-    let l : m * up e * down d * c < n * up d * down e * c = mul-lt-mul-of-pos-right (ltb→lt (m * up e * down d) (n * up d * down e) t) C in
+    let l : m * up e * down d * c < n * up d * down e * c = mul-lt-mul-of-pos-right (ltb-true (m * up e * down d) (n * up d * down e) t) C in
     let x : m * up e * down d * c ≡ a * (down e * down d) = mul-right-comm (m * up e) (down d) c ∙ ap (λ (z : ℕ). z * down d) (p .1) ∙ mul-assoc a (down e) (down d) in
     let y : n * up d * down e * c ≡ b * (down e * down d) = mul-right-comm (n * up d) (down e) c ∙ ap (λ (z : ℕ). z * down e) (q .1) ∙ mul-assoc b (down d) (down e) ∙ ap (λ (z : ℕ). b * z) (mul-comm (down d) (down e)) in
     lt-of-mul-lt-mul-right (down e * down d) (subst (λ (z : ℕ). z < b * (down e * down d)) x (subst (λ (z : ℕ). m * up e * down d * c < z) y l))
 
-most-is : HasValue most false (8998192055486251 * 2 ^ 1021) (2 ^ 1074)
-most-is = (refl, refl)
-
-most-near : Near1000 most 999
-most-near = record { units = 8998192055486251 * 2 ^ 1021; is = most-is; above = lit≤ tt; below = lit≤ tt }
-
 -- what lies above 0.999 is near no k below 999
-too-far : (L g g0 kL : ℕ) → 0 < L → g0 < g → 999 * L * 2 ^ 14 ≤ g0 * 1000 * 2 ^ 14 + 1000 * L → g * 1000 * 2 ^ 14 ≤ kL * 2 ^ 14 + 1000 * L → kL ≤ 998 * L → ⊥
+too-far : (L g g0 kL : ℕ) → 0 < L → g0 < g → 999 * L * 2 ^ 14 ≤ g0 * 1000 * 2 ^ 14 + 1 * 1000 * L → g * 1000 * 2 ^ 14 ≤ kL * 2 ^ 14 + 1 * 1000 * L → kL ≤ 998 * L → ⊥
 too-far L g g0 kL p a b c d = omega arith
 
 is-999 : (k : ℕ) → k ≤ 999 → (k ≤ 998 → ⊥) → k ≡ 999
 is-999 k h n = elim (eq-or-lt-of-le h) [ inl e ↦ e | inr l ↦ absurd (n (le-of-suc-le-suc l)) ]
 
-pub cap-near : (q : Float) (k : ℕ) → k ≤ 999 → Near1000 q k → Near1000 (capped q) k
-unfolding capped most-near
-cap-near q k h r = go (lt most q) (λ t. lt-units most q (8998192055486251 * 2 ^ 1021) (r .units) (2 ^ 1074) (pow-pos 1074) most-is (r .is) t)
+capped : Float → Float
+capped q = if lt most q then most else q
+
+cap-near : (q : Float) (k : ℕ) → k ≤ 999 → Nearly q k 1 → Nearly (capped q) k 1
+unfolding capped
+cap-near q k h r = go (lt most q) (λ t. lt-units most q (most-near .units) (r .units) (2 ^ 1074) (pow-pos 1074) (most-near .is) (r .is) t)
   where
-    go : (b : Bool) → (T b → 8998192055486251 * 2 ^ 1021 < r .units) → Near1000 (cond b most q) k
+    go : (b : Bool) → (b ≡ true → most-near .units < r .units) → Nearly (if b then most else q) k 1
     go true l =
-        subst (λ (z : ℕ). Near1000 most z)
-        (sym (is-999 k h (λ (n : k ≤ 998). too-far (2 ^ 1074) (r .units) (8998192055486251 * 2 ^ 1021) (k * 2 ^ 1074) (pow-pos 1074) (l tt) (most-near .below) (r .above) (mul-le-mul-right (2 ^ 1074) n)))) most-near
+        subst (λ (z : ℕ). Nearly most z 1)
+        (sym (is-999 k h (λ (n : k ≤ 998). too-far (2 ^ 1074) (r .units) (most-near .units) (k * 2 ^ 1074) (pow-pos 1074) (l refl) (most-near .below) (r .above) (mul-le-mul-right (2 ^ 1074) n)))) most-near
     go false l = r
 
--- ---- whole milliseconds come out exact, whatever the number of digits
-abbrev pub none : Float
-none = fin false 0 (pos 0)
+cap-within : (q : Float) → T (plain q) → T (plain (capped q)) × Within (capped q) most
+unfolding capped
+cap-within q p = go (lt most q) (not-above q most p most-plain)
+  where
+    go : (b : Bool) → (b ≡ false → Within q most) → T (plain (if b then most else q)) × Within (if b then most else q) most
+    go true w = (most-plain, within-self most most-plain)
+    go false w = (p, w refl)
 
-abbrev pub one : Float
-one = fin false 1 (pos 0)
+-- ---- the fraction of a second, of up to 255 digits: as many as a time value holds
+none-at : At (number 0) 0 (4 * 0)
+none-at = record { units = 0; is = to-units (number 0) 0 (number-val 0 (lit≤ tt)); close = (lit≤ tt, lit≤ tt) }
 
-unfoldable pub fracOf : List ℕ → Float
-unfolding capped div
-fracOf ds = capped (div binary64 (sumOf ds none) (scaleOf ds one))
+one-at : At (number 1) (10 ^ 0) (2 * 0)
+one-at = record { units = 2 ^ 1074; is = to-units (number 1) 1 (number-val 1 (lit≤ tt)); close = (lit≤ tt, lit≤ tt) }
 
-none-at : At none 0 (4 * 0)
-none-at = record { units = 0; is = (refl, refl); close = (lit≤ tt, lit≤ tt) }
+few-parts : (a m : ℕ) → a ≤ 4 → m ≤ 255 → a * m ≤ 2 ^ 30
+few-parts a m h k = le-trans (mul-le-mul h k) (lit≤ tt)
 
-one-at : At one (10 ^ 0) (2 * 0)
-one-at = record { units = 2 ^ 1074; is = (refl, refl); close = (lit≤ tt, lit≤ tt) }
+module _ (ds : List ℕ) (D : Digits ds) (h : length ds ≤ 255) where
+  abbrev n : ℕ
+  n = length ds
 
-few-4 : (m : ℕ) → m ≤ 235 → 4 * m ≤ 2 ^ 30
-few-4 m h = omega arith
+  abbrev sum : Float
+  sum = digitSum (number 0) ds
 
-few-2 : (m : ℕ) → m ≤ 235 → 2 * m ≤ 2 ^ 30
-few-2 m h = omega arith
+  abbrev by : Float
+  by = scale (number 1) ds
 
-pub frac-near : (ds : List ℕ) (k : ℕ) → Digits ds → length ds ≤ 235 → k ≤ 999 → 1000 * numOf ds 0 ≡ k * 10 ^ length ds → Near1000 (fracOf ds) k
-unfolding fracOf
-frac-near ds k D h kk e =
-    let m = length ds in
-    let a = fold-at ds none 0 0 m D none-at (lit≤ tt) (zero-add m) h in
-    let b = scale-at ds one 0 m one-at (zero-add m) h in
-    cap-near (div binary64 (sumOf ds none) (scaleOf ds one)) k kk
-    (quotient-near (sumOf ds none) (scaleOf ds one) (numOf ds 0) (10 ^ m) k (4 * m) (2 * m) (a .0) b (few-4 m h) (few-2 m h) (one-le-pow m 10 (lit≤ tt)) (le-of-lt (a .1)) (le-trans kk (lit≤ tt)) e)
+  sum-at : At sum (value 0 ds) (4 * n) × (value 0 ds < 10 ^ n)
+  sum-at = fold-at ds (number 0) 0 0 n D none-at (lit≤ tt) (zero-add n) h
 
-pub frac-millis : (ds : List ℕ) (s k : ℕ) → Digits ds → length ds ≤ 235 → k ≤ 999 → s ≤ 59 → 1000 * numOf ds 0 ≡ k * 10 ^ length ds → toUnsigned 64 (millis s (fracOf ds)) ≡ 1000 * s + k
-frac-millis ds s k D h kk hs e =
-    let r = frac-near ds k D h kk e in
-    near-millis (fracOf ds) s k (r .units) hs kk (r .is) (r .above) (r .below)
+  pub value-lt : value 0 ds < 10 ^ n
+  value-lt = sum-at .1
+
+  by-at : At by (10 ^ n) (2 * n)
+  by-at = scale-at ds (number 1) 0 n one-at (zero-add n) h
+
+  -- digits that write k whole milliseconds
+  pub fraction-near : (k : ℕ) → k ≤ 999 → 1000 * value 0 ds ≡ k * 10 ^ n → Nearly (fractionOf ds) k 1
+  unfolding fractionOf capped
+  fraction-near k kk e =
+      cap-near (sum ⊘ by) k kk
+      (quotient-near sum by (value 0 ds) (10 ^ n) k (4 * n) (2 * n) (sum-at .0) by-at (few-parts 4 n (lit≤ tt) h) (few-parts 2 n (lit≤ tt) h) (one-le-pow n 10 (lit≤ tt)) (le-of-lt (sum-at .1)) (le-trans kk (lit≤ tt)) e)
+
+  -- any digits: finite, from 0 to 0.999
+  pub fraction-within : T (plain (fractionOf ds)) × Within (fractionOf ds) (ratio 999 1000)
+  unfolding fractionOf capped
+  fraction-within =
+      let q = divided sum by (value 0 ds) (10 ^ n) (4 * n) (2 * n) (sum-at .0) by-at (few-parts 4 n (lit≤ tt) h) (few-parts 2 n (lit≤ tt) h) (one-le-pow n 10 (lit≤ tt)) (le-of-lt (sum-at .1)) .1 in
+      cap-within (sum ⊘ by) (plain-val (sum ⊘ by) (q .units) (2 ^ 1074) (q .is))
