@@ -4,8 +4,8 @@ use native.Mathlib.Nat.{le-div-iff-mul-le}
 use native.Mathlib.Omega.{arith}
 use borrow.Author.Tests.{ltb-false}
 use mathlib.Core.Path.{_≡_, refl, sym, ap, subst}
-use mathlib.Core.Bool.{Bool, true, false, not, _&&_, _||_}
-use lib.IntN.{ℤ, pos, negℤ}
+use mathlib.Core.Bool.{Bool, true, false, _&&_, _||_}
+use lib.IntN.{pos, negℤ}
 use lib.Dec.{T, ltb, eqb}
 use lib.Ieee.{Float, nan, inf, fin, up, down, toSigned, toUnsigned, lt, le, ne}
 use lib.Ieee.Fits.{down-pos}

@@ -1,23 +1,22 @@
 -- Numbers as Julian days and as seconds from 1970: how many milliseconds they come to, and milliseconds as days and seconds. Assumes nothing.
-use mathlib.Core.Path.{_≡_, refl, sym, ap, _∙_, subst}
-use mathlib.Core.Bool.{Bool, true, false, _&&_}
-use Prim.Native.Nat.{ℕ, suc, _+_, _-_, _*_, _≤_, _<_}
-use native.Mathlib.Nat.{le-refl, le-trans, le-of-eq}
+use mathlib.Core.Path.{_≡_, refl}
+use mathlib.Core.Bool.{true, false}
+use Prim.Native.Nat.{ℕ, suc, _-_, _*_, _≤_, _<_}
+use native.Mathlib.Nat.{le-trans}
 use native.Mathlib.Decide.{decLt}
 use native.Mathlib.Omega.{arith}
-use lib.IntN.{pos, negsuc}
 use lib.Dec.{T, lit≤}
 use lib.Ieee.{Float, nan, inf, fin, binary64, add, mul, div, neg, le, lt, ofInt, round, minus, toUnsigned}
 use lib.Pow.{pow-pos}
 use lib.Ieee.Positive.{num, den}
-use Rattle.rules.specs.Floats.{number, ratio, half, within, below, whole, decimals, _⊕_, _⊗_, _⊘_}
+use Rattle.rules.specs.Floats.{number, ratio, half, within, below, _⊕_, _⊗_, _⊘_}
 use Rattle.rules.specs.Calendar.{instant, last, unixEpoch}
 use Rattle.rules.specs.Reading.{isJulian, julianMs}
 use Rattle.rules.specs.Modifiers.{fromEpoch, nearestMs, isAuto, isUnix}
 use Rattle.rules.specs.Writing.{unixReal, julianReal}
 use Rattle.real.proofs.Sign.{number-neg}
 use Rattle.real.proofs.Signs.{minus-pos, minus-neg}
-use Rattle.real.proofs.Within.{Within, plain, and-left, and-right, within-self, within-neg, within-mul, within-add, within-div, within-below, within-le, whole-within, decimals-within, number-within, number-plain, half-plain, span-within, around, within-round, plain-round}
+use Rattle.real.proofs.Within.{Within, plain, and-left, and-right, within-self, within-neg, within-mul, within-add, within-div, within-below, within-le, whole-within, number-within, number-plain, half-plain, span-within, around, within-round, plain-round}
 use Rattle.real.proofs.Near.{number-val, div-at}
 
 -- ---- what each test lets through: at most the milliseconds of its limit, computed

@@ -1,7 +1,7 @@
 -- Decimals of a magnitude digits / 2 ^ shift. Assumes nothing.
 use mathlib.Core.Path.{_≡_, refl, sym, ap, _∙_}
-use Prim.Native.Nat.{ℕ, _+_, _-_, _*_, _/_, _%_, _^_, _≤_, _<_, compare, Ordering, Ordering·lt, Ordering·eq, Ordering·gt}
-use native.Mathlib.Nat.{le-trans, le-of-eq, lt-of-lt-of-le, lt-of-le-of-lt, lt-of-not-le, not-le-of-lt, le-of-suc-le-suc, mul-one, mul-le-mul-right, mul-le-mul-left, le-of-mul-le-mul-right, one-mul, mul-comm, mul-assoc, mul-right-comm, add-mul, add-suc, mod-lt, mod-eq-of-lt, div-eq-of-lt, div-add-mod', mul-add-div-right, mul-add-mod-self-right, mul-lt-mul-of-pos-right, div-lt-iff-lt-mul}
+use Prim.Native.Nat.{ℕ, _+_, _*_, _/_, _%_, _^_, _≤_, _<_, compare, Ordering, Ordering·lt, Ordering·eq, Ordering·gt}
+use native.Mathlib.Nat.{le-trans, le-of-eq, lt-of-lt-of-le, lt-of-le-of-lt, lt-of-not-le, not-le-of-lt, le-of-suc-le-suc, mul-one, mul-le-mul-right, mul-le-mul-left, le-of-mul-le-mul-right, one-mul, mul-comm, mul-right-comm, add-mul, add-suc, mod-lt, mod-eq-of-lt, div-eq-of-lt, div-add-mod', mul-add-div-right, mul-add-mod-self-right, mul-lt-mul-of-pos-right, div-lt-iff-lt-mul}
 use native.Mathlib.Omega.{arith}
 use lib.Dec.{lit≤}
 use lib.Pow.{pow-pos, pow-mono, pow-lt}

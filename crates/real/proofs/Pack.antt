@@ -2,14 +2,13 @@
 -- field and the 53 kept digits, added. Assumes nothing.
 use mathlib.Core.Path.{_≡_, refl, sym, ap, _∙_, subst}
 use mathlib.Core.Logic.{_⊎_, inl, inr}
-use Prim.Native.Nat.{ℕ, zero, suc, _+_, _-_, _*_, _/_, _%_, _^_, _≤_, _<_, compare, Ordering, Ordering·lt, Ordering·eq, Ordering·gt}
-use native.Mathlib.Nat.{le-refl, le-trans, le-of-eq, le-antisymm, le-of-lt, lt-irrefl, lt-of-lt-of-le, lt-of-le-of-lt, lt-of-not-le, not-le-of-lt, eq-or-lt-of-le, zero-add, mul-one, one-mul, mul-comm, mul-assoc, mul-left-comm, mul-right-comm, add-mul, suc-mul, suc-add, pow-suc, mul-le-mul-right, mul-le-mul-left, mul-lt-mul-of-pos-right, mul-le-mul, le-of-suc-le-suc, le-add-right, eq-of-mul-eq-mul-right, mul-pos, div-add-mod', mod-lt, div-lt-iff-lt-mul, le-div-iff-mul-le, div-div-eq-div-mul, mul-div-cancel}
+use Prim.Native.Nat.{ℕ, suc, _+_, _-_, _*_, _/_, _%_, _^_, _≤_, _<_, compare, Ordering, Ordering·lt, Ordering·eq, Ordering·gt}
+use native.Mathlib.Nat.{le-refl, le-trans, le-of-eq, le-antisymm, lt-of-lt-of-le, lt-of-le-of-lt, lt-of-not-le, not-le-of-lt, eq-or-lt-of-le, zero-add, mul-comm, mul-assoc, add-mul, suc-mul, suc-add, pow-suc, mul-le-mul-right, mul-le-mul, le-of-suc-le-suc, le-add-right, mul-pos, div-add-mod', div-lt-iff-lt-mul, le-div-iff-mul-le, div-div-eq-div-mul, mul-div-cancel}
 use native.Mathlib.Omega.{arith}
 use mathlib.Core.Bool.{Bool, true, false, not, cond, true≢false}
 use lib.Dec.{T, lit≤, ltb, ltb→lt, nltb→le}
-use lib.IntN.{ℤ}
 use lib.Pow.{pow-add, pow-pos, pow-mono, pow-lt, shl-lt}
-use lib.Ieee.{Float, nan, inf, fin, Format, binary64, prec, emax, low, hid, top, up, down, size, nearest, round, toBits, ofBits, fits}
+use lib.Ieee.{Float, nan, inf, fin, Format, binary64, prec, low, hid, up, down, size, nearest, round, toBits, ofBits}
 use lib.Ieee.Digits.{size-le, size-lt}
 use lib.Ieee.Fits.{down-pos, round-fits}
 use lib.Ieee.Exact.{HasValue}

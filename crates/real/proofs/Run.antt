@@ -1,5 +1,5 @@
 -- The digits at the front of a text: crate rules' `run`, one byte at a time, and at a place of a slice. Assumes nothing.
-use mathlib.Core.Path.{_≡_, refl, sym, ap, _∙_, subst}
+use mathlib.Core.Path.{_≡_, refl}
 use mathlib.Core.Bool.{Bool, true, false, _&&_}
 use mathlib.Core.List.{List, [], _∷_}
 use Prim.Native.Nat.{ℕ, suc, _+_, _-_, _≤_, _<_, zero-le}
@@ -7,7 +7,7 @@ use native.Mathlib.Numerals.{add-one}
 use native.Mathlib.Omega.{arith}
 use borrow.Author.Tests.{le-leb, lt-leb, leb-true}
 use lib.Dec.{leb}
-use lib.ListN.{length, getD, drop, drop-of-length-le}
+use lib.ListN.{length, getD, drop, drop-of-length-le, length-drop}
 use lib.Seq.{drop-cons}
 use Rattle.rules.specs.Basics.{if_then_else_, isDigit}
 use Rattle.rules.specs.Decimal.{run}
@@ -57,3 +57,7 @@ run-digits (b ∷ s) = go (isDigit b) (λ e. leb-true b 57 (second (leb 48 b) (l
     go : (x : Bool) → (x ≡ true → b ≤ 57) → Digits (run s .0) × (length (run s .0) ≤ length s) → Digits (found x .0) × (length (found x .0) ≤ suc (length s))
     go true d r = let l = r .1 in let h = d refl in ((omega arith, r .0), omega arith)
     go false d r = (tt, zero-le)
+
+-- of a text that is short enough
+pub run-short : (s : List ℕ) (at : ℕ) → length s ≤ 255 → Digits (run (drop at s) .0) × (length (run (drop at s) .0) ≤ 255)
+run-short s at h = let (d, l) = run-digits (drop at s) in (d, omega (arith, length-drop at s))

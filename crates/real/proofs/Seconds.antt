@@ -2,13 +2,13 @@
 use mathlib.Core.Path.{_≡_, refl, sym, ap, _∙_, subst}
 use mathlib.Core.Bool.{true, false}
 use mathlib.Core.List.{List, []}
-use Prim.Native.Nat.{ℕ, zero, suc, _+_, _-_, _*_, _/_, _^_, _≤_, _<_}
+use Prim.Native.Nat.{ℕ, _+_, _-_, _*_, _^_, _≤_, _<_}
 use native.Mathlib.Nat.{le-refl, le-trans, le-of-eq, le-of-suc-le-suc, lt-of-lt-of-le, mul-assoc, mul-comm, mul-one, mul-le-mul-right, mul-lt-mul-of-pos-right, one-le-pow}
 use native.Mathlib.Omega.{arith}
 use lib.Dec.{T, lit≤}
 use lib.IntN.{negsuc}
 use lib.Ieee.Positive.{num, den}
-use lib.Ieee.{Float, fin, binary64, add, mul, div, le, lt, neg, ofInt, round, toUnsigned}
+use lib.Ieee.{Float, fin, binary64, add, mul, div, le, lt, ofInt, round, toUnsigned}
 use lib.ListN.{length}
 use lib.Pow.{pow-add, pow-pos}
 use Rattle.rules.specs.Floats.{number, ratio, half, whole, below, decimals, _⊕_, _⊗_, _⊘_}
@@ -28,6 +28,10 @@ use Rattle.real.proofs.Within.{Within, plain, plain-val, plain-mul, pla
 pub fraction-none : fractionOf [] ≡ number 0
 unfolding fractionOf digitSum scale div ofInt round lt
 fraction-none = refl
+
+-- any digits, up to 255 of them: as many as a time value holds
+pub fraction-span : (ds : List ℕ) → Digits ds → length ds ≤ 255 → (le (number 0) (fractionOf ds) ≡ true) × (le (fractionOf ds) (ratio 999 1000) ≡ true)
+fraction-span ds D n = let (p, w) = fraction-within ds D n in (not-below (fractionOf ds) p, within-le (fractionOf ds) (ratio 999 1000) p w)
 
 -- ---- milliseconds grow with the seconds, up to 59.999
 abbrev top : Float

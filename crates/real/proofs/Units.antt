@@ -1,20 +1,20 @@
 -- `N unit`: how far each unit moves a time within its limit, and that sixteen such steps stay within 64 bits. Assumes nothing.
-use mathlib.Core.Path.{_≡_, refl, sym, ap, _∙_, subst}
+use mathlib.Core.Path.{_≡_, refl, sym, ap, _∙_}
 use mathlib.Core.Logic.{_⊎_, inl, inr, ⊎-elim}
 use mathlib.Core.Bool.{Bool, true, false, not, cond, true≢false}
 use Prim.Native.Nat.{ℕ, zero, suc, _+_, _-_, _*_, _/_, _^_, _≤_, _<_, min}
-use native.Mathlib.Nat.{le-trans, le-of-eq, le-of-lt, le-refl, le-of-suc-le-suc, lt-of-lt-of-le, add-le-add, div-add-mod', mod-lt, zero-mul, mul-one, one-mul, mul-comm, mul-right-comm, mul-assoc, add-mul, mul-le-mul-right, mul-pos, div-mul-le-self, div-lt-iff-lt-mul}
+use native.Mathlib.Nat.{le-trans, le-of-eq, le-of-lt, le-refl, le-of-suc-le-suc, lt-of-lt-of-le, add-le-add, div-add-mod', mod-lt, zero-mul, mul-one, mul-right-comm, add-mul, mul-le-mul-right, mul-pos, div-mul-le-self, div-lt-iff-lt-mul}
 use native.Mathlib.Omega.{arith}
 use lib.Dec.{T, lit≤, ltb}
-use lib.IntN.{ℤ, pos, negsuc, negℤ, natAbs}
-use lib.Ieee.{Float, nan, inf, fin, binary64, up, down, add, sub, mul, neg, sum, lt, ofInt, round, toSigned, toUnsigned}
+use lib.IntN.{ℤ, pos, negℤ, natAbs}
+use lib.Ieee.{Float, nan, inf, fin, binary64, up, down, add, sub, mul, neg, sum, ofInt, round, toSigned, toUnsigned}
 use lib.Ieee.Back.{round-whole}
 use lib.Ieee.Exact.{HasValue}
 use lib.Ieee.Scale.{finite}
 use lib.Ieee.Fits.{down-pos}
 use lib.Ieee.Positive.{num, den, den-pos}
 use Rattle.rules.specs.Floats.{number, half, cut, whole, below, _⊕_, _⊖_, _⊗_}
-use Rattle.rules.specs.Modifiers.{signed, rounded, unitMs, fractionMs}
+use Rattle.rules.specs.Modifiers.{signed, unitMs, fractionMs}
 use Rattle.real.specs.StepMost.{stepMost}
 use Rattle.real.proofs.Within.{Within, plain, within-self, within-mul, within-round, rounded-within, below-number, below-within, number-plain}
 

@@ -7,13 +7,13 @@ use native.Mathlib.Nat.{le-refl, le-trans, le-of-eq, le-of-lt, eq-or-lt-of-le, l
 use native.Mathlib.Omega.{arith}
 use borrow.Author.Tests.{ltb-true, ltb-false, eqb-true, lt-ltb, le-ltb, eq-eqb, ne-eqb}
 use mathlib.Core.Bool.{Bool, true, false, not, _&&_, _||_, cond, true≢false}
-use lib.IntN.{ℤ, pos, negsuc, negℤ, natAbs}
+use lib.IntN.{pos, negℤ, natAbs}
 use lib.Dec.{T, ltb, eqb, ltb→lt}
 use lib.Pow.{pow-pos}
 use lib.Ieee.{Float, nan, inf, fin, Format, binary64, prec, low, emax, unlike, up, down, odd, units, ofInt, round, neg, sum, add, sub, mul, div, lt, le, isNan, toSigned, toUnsigned}
 use lib.Ieee.Exact.{HasValue}
 use lib.Ieee.Fits.{down-pos, up-pos, round-is}
-use lib.Ieee.Nearest.{closest, closest-mono, div-mono}
+use lib.Ieee.Nearest.{closest-mono, div-mono}
 use lib.Ieee.Order.{round-mono, transfer, kept, drop}
 use lib.Ieee.Positive.{num, den, den-pos, value→cross, through, positive}
 use lib.Ieee.Scale.{finite}

@@ -1,13 +1,11 @@
 -- `real::billionths` meets its contract. Assumes nothing.
 use mathlib.Core.Path.{_≡_, refl, sym, ap, subst, _∙_}
-use mathlib.Core.Bool.{true}
-use Prim.Native.Nat.{ℕ, _+_, _-_, _*_, _/_, _%_, _^_, _<_, _≤_}
+use Prim.Native.Nat.{ℕ, _+_, _*_, _/_, _%_, _^_, _<_, _≤_}
 use native.Mathlib.Nat.{mod-lt, lt-of-lt-of-le, le-trans}
 use native.Mathlib.Omega.{arith}
 use lib.Dec.{lit≤}
 use lib.Pow.{pow-pos, pow-mono}
 use lib.Ieee.Nearest.{closest}
-use Rattle.real.specs.PartsOf.{PartsOf}
 use Rattle.real.proofs.Fixed.{decimals-of, one-shifted, split, rest-le, nine-below, nine-shift, nine-whole}
 use Rattle.real.proofs.billionths.Statement.{statement}
 use Rattle.real.proofs.billionths.Tie as tie

@@ -1,5 +1,5 @@
 -- `real::floor_seconds` meets its contract: a fact of ℤ, and then what the machine reads back. Assumes nothing.
-use mathlib.Core.Path.{_≡_, _∙_}
+use mathlib.Core.Path.{_≡_}
 use native.Mathlib.Omega.{arith}
 use lib.IntN.{pos, _-ℤ_}
 use lib.Signed.{quotZ}

@@ -1,7 +1,7 @@
 -- `real::fraction_at` meets its contract. The loop's invariant: what is left of the digits, summed on from here, gives what all of them
 -- give from the start, and so does what follows them. Assumes nothing.
 use mathlib.Core.Path.{_≡_, refl, sym, ap, _∙_}
-use mathlib.Core.List.{List, [], _∷_}
+use mathlib.Core.List.{List, []}
 use mathlib.Core.Logic.{⊎-elim}
 use Prim.Native.Nat.{ℕ, _+_, _-_, _≤_, _<_}
 use native.Mathlib.Nat.{le-refl}
@@ -10,7 +10,7 @@ use borrow.Author.Tests.{ltb-true, ltb-false}
 use lib.ListN.{length, getD, drop}
 use denote.Ref.{now}
 use lib.Ieee.{Float}
-use Rattle.rules.specs.Floats.{number, _⊕_, _⊗_, _⊘_}
+use Rattle.rules.specs.Floats.{number, _⊕_, _⊗_}
 use Rattle.rules.specs.Decimal.{run}
 use Rattle.rules.specs.Reading.{digitSum, scale, fractionOf}
 use Rattle.real.proofs.Literals.{nil, one, ten, most}

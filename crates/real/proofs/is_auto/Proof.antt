@@ -1,5 +1,4 @@
 -- `real::is_auto` meets its contract: the first test decides, or the second. Assumes nothing.
-use mathlib.Core.Path.{sym}
 use Rattle.real.proofs.Literals.{autoLow, autoHigh}
 use Rattle.real.proofs.is_auto.Statement.{statement}
 use Rattle.real.proofs.is_auto.Tie as tie

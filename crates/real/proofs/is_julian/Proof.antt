@@ -1,5 +1,4 @@
 -- `real::is_julian` meets its contract: the first test decides, or the second. Assumes nothing.
-use mathlib.Core.Path.{sym}
 use Rattle.real.proofs.Literals.{nil, julianEnd}
 use Rattle.real.proofs.is_julian.Statement.{statement}
 use Rattle.real.proofs.is_julian.Tie as tie

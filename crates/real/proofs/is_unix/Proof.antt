@@ -1,5 +1,4 @@
 -- `real::is_unix` meets its contract: the first test decides, or the second. Assumes nothing.
-use mathlib.Core.Path.{sym}
 use Rattle.real.proofs.Literals.{nil, end}
 use Rattle.real.proofs.is_unix.Statement.{statement}
 use Rattle.real.proofs.is_unix.Tie as tie
