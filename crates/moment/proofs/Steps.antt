@@ -99,6 +99,12 @@ pub date-fails : (p : Moment) → p .dated ≡ false → p .counted ≡ true →
 unfolding fillDate
 date-fails p h k r = rw (h, k, r)
 
+pub date-cases : (P : Moment → Type 0) (p : Moment) → (p .dated ≡ true → P p) → (inRange (p .ms) ≡ true → P (onDate p (civil (p .ms)))) → (p .counted ≡ true → inRange (p .ms) ≡ false → P failure) → (p .counted ≡ false → P (setDated (setDate p (year 2000) 1 1) true)) → P (fillDate p)
+unfolding fillDate
+date-cases P p stands fills fails unknown =
+    by-test P (p .dated) p (if p .counted then (if inRange (p .ms) then onDate p (civil (p .ms)) else failure) else setDated (setDate p (year 2000) 1 1) true) stands
+    (λ _. by-test P (p .counted) (if inRange (p .ms) then onDate p (civil (p .ms)) else failure) (setDated (setDate p (year 2000) 1 1) true) (λ c. by-test P (inRange (p .ms)) (onDate p (civil (p .ms))) failure fills (fails c)) unknown)
+
 -- ---- fillTime
 pub time-stands : (p : Moment) → p .timed ≡ true → fillTime p ≡ p
 unfolding fillTime
@@ -107,6 +113,10 @@ time-stands p h = rw h
 pub time-filled : (p : Moment) → p .timed ≡ false → fillTime p ≡ onTime (countMs p) (timeOfDay ((countMs p) .ms))
 unfolding fillTime
 time-filled p h = rw h
+
+pub time-cases : (P : Moment → Type 0) (p : Moment) → (p .timed ≡ true → P p) → P (onTime (countMs p) (timeOfDay ((countMs p) .ms))) → P (fillTime p)
+unfolding fillTime
+time-cases P p stands fills = by-test P (p .timed) p (onTime (countMs p) (timeOfDay ((countMs p) .ms))) stands (λ _. fills)
 
 -- ---- what is read
 pub timed-utc : (t : Time) → t .utc ≡ true → timed t ≡ setUtc (setZone (setTimed (setTime blank (t .hour) (t .minute) (t .second)) true) (t .zone))
