@@ -4,12 +4,18 @@ use mathlib.Core.Path.{_≡_}
 use Prim.Native.Nat.{ℕ, _+_, _-_, _*_, _≤_, _<_}
 use native.Mathlib.Omega.{arith}
 use borrow.Author.Tests.{eq-eqb, ne-eqb, le-leb, lt-leb, leb-true}
-use lib.Dec.{leb}
+use lib.Dec.{eqb, leb}
+use Rattle.rules.specs.Basics.{if_then_else_}
 use lib.Ieee.{Float}
 use Rattle.rules.specs.Calendar.{year, minusYear, instant, last, inRange, midnight, civil, timeOfDay}
 use Rattle.calendar.specs.Ranges.{MonthDay, Countable}
 use Rattle.moment.specs.Ranges.{sumTakes}
+<<<<<<< HEAD
 use Rattle.real.proofs.Tests.{and-left, and-right}
+=======
+use Rattle.moment.proofs.Branches.{either, by-test}
+use Rattle.real.proofs.Within.{and-left, and-right}
+>>>>>>> moment
 use Rattle.rules.specs.Reading.{timed, isJulian, julianMs, rawNumber}
 use Rattle.rules.specs.declared.Time.{Time}
 use Rattle.rules.specs.Moments.{Moment, blank, failure, noZone, counted, clear, setMs, setDate, setDated, setTime, setTimed, setZone, setRaw, setUtc, timeMs, withTime, sumOf, countMs, onDate, fillDate, onTime, fillTime}
@@ -61,6 +67,16 @@ pub count-undated : (p : Moment) → p .counted ≡ false → p .dated ≡ false
 unfolding countMs
 count-undated p h k = rw (h, k)
 
+-- what comes of it: the record as it stood; the error record; or milliseconds that stand, and the fields cleared where a zone was taken off
+pub count-cases : (P : Moment → Type 0) (p : Moment) → (p .counted ≡ true → P p) → P failure → ((t : ℕ) → P (counted p t)) → ((t : ℕ) → P (setUtc (clear (counted p t)))) → P (countMs p)
+unfolding countMs sumOf withTime
+count-cases P p stands fails sums clears =
+    by-test P (p .counted) p (if p .dated then sumOf p (p .year) (p .month) (p .day) else sumOf p (year 2000) 1 1) stands
+    (λ _. either P (p .dated) (sumOf p (p .year) (p .month) (p .day)) (sumOf p (year 2000) 1 1) (sum (p .year) (p .month) (p .day)) (sum (year 2000) 1 1))
+  where
+    sum : (y m d : ℕ) → P (sumOf p y m d)
+    sum y m d = either P (sumTakes y (p .raw)) (withTime (counted p (midnight y m d))) failure (either P (p .timed) _ (counted p (midnight y m d)) (either P (eqb (p .zone) noZone) _ _ (sums _) (clears _)) (sums _)) fails
+
 -- ---- fillDate
 pub date-stands : (p : Moment) → p .dated ≡ true → fillDate p ≡ p
 unfolding fillDate
@@ -87,6 +103,12 @@ pub date-fails : (p : Moment) → p .dated ≡ false → p .counted ≡ true →
 unfolding fillDate
 date-fails p h k r = rw (h, k, r)
 
+pub date-cases : (P : Moment → Type 0) (p : Moment) → (p .dated ≡ true → P p) → (inRange (p .ms) ≡ true → P (onDate p (civil (p .ms)))) → (p .counted ≡ true → inRange (p .ms) ≡ false → P failure) → (p .counted ≡ false → P (setDated (setDate p (year 2000) 1 1) true)) → P (fillDate p)
+unfolding fillDate
+date-cases P p stands fills fails unknown =
+    by-test P (p .dated) p (if p .counted then (if inRange (p .ms) then onDate p (civil (p .ms)) else failure) else setDated (setDate p (year 2000) 1 1) true) stands
+    (λ _. by-test P (p .counted) (if inRange (p .ms) then onDate p (civil (p .ms)) else failure) (setDated (setDate p (year 2000) 1 1) true) (λ c. by-test P (inRange (p .ms)) (onDate p (civil (p .ms))) failure fills (fails c)) unknown)
+
 -- ---- fillTime
 pub time-stands : (p : Moment) → p .timed ≡ true → fillTime p ≡ p
 unfolding fillTime
@@ -95,6 +117,10 @@ time-stands p h = rw h
 pub time-filled : (p : Moment) → p .timed ≡ false → fillTime p ≡ onTime (countMs p) (timeOfDay ((countMs p) .ms))
 unfolding fillTime
 time-filled p h = rw h
+
+pub time-cases : (P : Moment → Type 0) (p : Moment) → (p .timed ≡ true → P p) → P (onTime (countMs p) (timeOfDay ((countMs p) .ms))) → P (fillTime p)
+unfolding fillTime
+time-cases P p stands fills = by-test P (p .timed) p (onTime (countMs p) (timeOfDay ((countMs p) .ms))) stands (λ _. fills)
 
 -- ---- what is read
 pub timed-utc : (t : Time) → t .utc ≡ true → timed t ≡ setUtc (setZone (setTimed (setTime blank (t .hour) (t .minute) (t .second)) true) (t .zone))
