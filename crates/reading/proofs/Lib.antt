@@ -4,3 +4,5 @@ pub mod Fractions
 pub mod Times
 pub mod Dates
 pub mod Values
+pub mod Places
+pub mod Stamps

@@ -23,7 +23,6 @@ use Rattle.reading.specs.declared.Second.{Second}
 use Rattle.reading.specs.declared.Daytime.{Daytime}
 use Rattle.reading.specs.declared.YearMonthDay.{YearMonthDay}
 use Rattle.reading.specs.declared.Form.{Form}
-use Rattle.reading.specs.declared.Reading.{Reading}
 
 -- ---- HH:MM
 -- of an hour up to `most`, and what follows
@@ -134,12 +133,3 @@ FormHeld Form.Other = Unit
 -- what is tried last
 abbrev pub subsecValue : ℕ → List ℕ → Read rule.Moment
 subsecValue clock s = onlyIf (word (ascii "subsec") s || word (ascii "subsecond") s) (now clock (setSubsec blank true)) or refuse Refusal.Null
-
--- a refusal of 1 or 5, or a record after no modifier
-abbrev pub readingOf : Reading → Read rule.Moment
-readingOf (Reading.Is p) = got (held p)
-readingOf (Reading.Refused r) = refuse r
-
-abbrev pub ReadingHeld : Reading → Type 0
-ReadingHeld (Reading.Is p) = After 0 (held p)
-ReadingHeld (Reading.Refused r) = Unit

@@ -11,11 +11,12 @@ ghost use Rattle.rules.specs.Basics.{_or_};
 ghost use Rattle.rules.specs.Calls.{valueOf};
 ghost use Rattle.rules.specs.Moments.{noZone};
 ghost use Rattle.rules.specs.Reading as reading;
-ghost use Rattle.reading.specs.Readers.{hourMinute, hourMinuteOf, UpTo, minutesOf, zoneOf, secondsOf, timeOf, eastBy, westBy, FewMinutes, ZoneHeld, SecondsHeld, TimeHeld, yearMonthDay, ymdOf, InYear, heldYear, formOf, FormHeld, subsecValue, readingOf, ReadingHeld};
+ghost use Rattle.reading.specs.Readers.{hourMinute, hourMinuteOf, UpTo, minutesOf, zoneOf, secondsOf, timeOf, eastBy, westBy, FewMinutes, ZoneHeld, SecondsHeld, TimeHeld, yearMonthDay, ymdOf, InYear, heldYear, formOf, FormHeld, subsecValue};
 ghost use Rattle.moment.specs.Held.{held};
-ghost use Rattle.moment.specs.Ranges.{Sane, Filled};
+ghost use Rattle.moment.specs.Ranges.{Sane, After, Filled, readOf, Lands};
 use decimal::Number;
 use moment::Moment;
+use moment::Step;
 use real::Fraction;
 use rules::Given;
 use rules::Refusal;
@@ -315,12 +316,6 @@ pub fn date(s: &[u8]) -> Form
 
 // ---- a time value
 
-// What a time value reads to: a record, or refusal 1 or 5.
-pub enum Reading {
-    Is(Moment),
-    Refused(Refusal),
-}
-
 fn is_subsec(s: &[u8]) -> bool
     ensures { λ r. ⌜ r ≡ (rule.word (rule.ascii "subsec") (now (s .entry)) || rule.word (rule.ascii "subsecond") (now (s .entry))) ⌝ }
 {
@@ -328,59 +323,59 @@ fn is_subsec(s: &[u8]) -> bool
 }
 
 // What is neither date, time, `now` nor number: `subsec` or `subsecond`.
-fn subsec_value(s: &[u8], clock: u64) -> Reading
+fn subsec_value(s: &[u8], clock: u64) -> Step
     requires { ⌜ clock ≤ 253402300799999 ⌝ }
-    ensures { λ r. ⌜ readingOf r ≡ subsecValue clock (now (s .entry)) ⌝ }
-    ensures { λ r. ⌜ ReadingHeld r ⌝ }
+    ensures { λ r. ⌜ readOf r ≡ subsecValue clock (now (s .entry)) ⌝ }
+    ensures { λ r. ⌜ Lands (After 0) r ⌝ }
 {
     if is_subsec(s) {
-        return Reading::Is(Moment::blank().with_subsec().now(clock));
+        return Step::Next(Moment::blank().with_subsec().now(clock));
     }
-    Reading::Refused(Refusal::Null)
+    Step::Refused(Refusal::Null)
 }
 
 // What is neither date, time nor `now`: a decimal, which "is trimmed of it on both sides".
-fn number_value(s: &[u8], clock: u64) -> Reading
+fn number_value(s: &[u8], clock: u64) -> Step
     requires { ⌜ clock ≤ 253402300799999 ⌝ }
-    ensures { λ r. ⌜ readingOf r ≡ (reading.numberForm (now (s .entry)) or subsecValue clock (now (s .entry))) ⌝ }
-    ensures { λ r. ⌜ ReadingHeld r ⌝ }
+    ensures { λ r. ⌜ readOf r ≡ (reading.numberForm (now (s .entry)) or subsecValue clock (now (s .entry))) ⌝ }
+    ensures { λ r. ⌜ Lands (After 0) r ⌝ }
 {
     match decimal::decimal(text::trim_space(s)) {
-        Number::Is(x) => Reading::Is(Moment::raw_number(x)),
-        Number::Over => Reading::Refused(Refusal::Decimal),
+        Number::Is(x) => Step::Next(Moment::raw_number(x)),
+        Number::Over => Step::Refused(Refusal::Decimal),
         Number::NotOne => subsec_value(s, clock),
     }
 }
 
 // "Tried in order: `[-]YYYY-MM-DD` with optional time; a time alone; `now`; a decimal; `subsec` or `subsecond`. Words in either case."
-pub fn text_value(s: &[u8], clock: u64) -> Reading
+pub fn text_value(s: &[u8], clock: u64) -> Step
     requires { ⌜ length (now s) ≤ 255 ⌝ ∗ ⌜ clock ≤ 253402300799999 ⌝ }
-    ensures { λ r. ⌜ readingOf r ≡ reading.textValue clock (now (s .entry)) ⌝ }
-    ensures { λ r. ⌜ ReadingHeld r ⌝ }
+    ensures { λ r. ⌜ readOf r ≡ reading.textValue clock (now (s .entry)) ⌝ }
+    ensures { λ r. ⌜ Lands (After 0) r ⌝ }
 {
     if let Form::Is(p) = date(s) {
-        return Reading::Is(p);
+        return Step::Next(p);
     }
     if let Form::Is(p) = time_alone(s, 0) {
-        return Reading::Is(p);
+        return Step::Next(p);
     }
     if text::is_word(s, b"now") {
-        return Reading::Is(Moment::blank().now(clock));
+        return Step::Next(Moment::blank().now(clock));
     }
     number_value(s, clock)
 }
 
 // "A time value is absent (read as `now`), null, bytes, a 64-bit signed integer or an f64." The bytes stand in s.
-pub fn time_value(given: Given, s: &[u8], clock: u64) -> Reading
+pub fn time_value(given: Given, s: &[u8], clock: u64) -> Step
     requires { ⌜ length (now s) ≤ 255 ⌝ ∗ ⌜ clock ≤ 253402300799999 ⌝ }
-    ensures { λ r. ⌜ readingOf r ≡ reading.timeValue clock (valueOf given (now (s .entry))) ⌝ }
-    ensures { λ r. ⌜ ReadingHeld r ⌝ }
+    ensures { λ r. ⌜ readOf r ≡ reading.timeValue clock (valueOf given (now (s .entry))) ⌝ }
+    ensures { λ r. ⌜ Lands (After 0) r ⌝ }
 {
     match given {
-        Given::Absent => Reading::Is(Moment::blank().now(clock)),
-        Given::Null => Reading::Refused(Refusal::Null),
+        Given::Absent => Step::Next(Moment::blank().now(clock)),
+        Given::Null => Step::Refused(Refusal::Null),
         Given::Bytes => text_value(s, clock),
-        Given::Integer(n) => Reading::Is(Moment::raw_number(real::of_integer(n))),
-        Given::Real(x) => Reading::Is(Moment::raw_number(x)),
+        Given::Integer(n) => Step::Next(Moment::raw_number(real::of_integer(n))),
+        Given::Real(x) => Step::Next(Moment::raw_number(x)),
     }
 }
