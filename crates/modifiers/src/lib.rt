@@ -1,0 +1,2 @@
+// Modifiers: one, and all of them in one lent buffer.
+mod buffer;
