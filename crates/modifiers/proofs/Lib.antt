@@ -1,3 +1,7 @@
 -- Laws of the modifiers that rules defines.
 -- the buffer: what refuses it, and its modifiers one after another
 pub mod Entries
+-- what a modifier is, by its words
+pub mod Letters
+-- the branch that a test picks
+pub mod Choices

@@ -1,15 +1,16 @@
-use Rattle.modifiers.specs.declared.buffer.Fault.the-variants.{Bytes, Nothing}
-use mathlib.Core.Bool.{Bool}
+-- `modifiers::buffer::fault_of` meets its contract. Assumes nothing.
 use Prim.Native.Nat.{_-_, _≤_}
 use mathlib.Core.Path.{_≡_, sym, _∙_, ap}
+use mathlib.Core.Bool.{Bool}
 use native.Mathlib.Omega.{arith}
 use lib.ListN.{length, drop}
 use borrow.Author.Needs.{needs}
 use Rattle.rules.specs.Basics.{if_then_else_}
+use Rattle.modifiers.specs.declared.buffer.Fault.the-variants.{Bytes, Nothing}
 use Rattle.modifiers.specs.Buffer.{faultOf}
 use Rattle.modifiers.proofs.Entries.{faultFrom, fault-start, fault-zero, fault-many, fault-byte, fault-high, fault-long, fault-open, fault-end}
-use Rattle.modifiers.proofs.buffer.fault_of.Statement.{statement}
 use Rattle.modifiers.proofs.buffer.fault_of.Tie as tie
+use Rattle.modifiers.proofs.buffer.fault_of.Statement.{statement}
 
 abbrev Inv-loop : tie.InvT-loop
 Inv-loop buffer high₀ ended₀ bytes₀ i₀ high ended bytes i = (faultOf buffer ≡ faultFrom high ended bytes (drop i buffer)) × (ended ≤ 16) × (bytes ≤ 255)
