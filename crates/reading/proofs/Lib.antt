@@ -1,0 +1,4 @@
+pub mod Steps
+pub mod Zones
+pub mod Fractions
+pub mod Times
