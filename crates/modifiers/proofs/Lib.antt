@@ -5,3 +5,7 @@ pub mod Entries
 pub mod Letters
 -- the branch that a test picks
 pub mod Choices
+-- what was written in full reads back
+pub mod Written
+-- what the date form and the time form do; texts of timediff
+pub mod Shifts
