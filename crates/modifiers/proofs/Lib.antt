@@ -9,3 +9,5 @@ pub mod Choices
 pub mod Written
 -- what the date form and the time form do; texts of timediff
 pub mod Shifts
+-- a modifier is the step of its kind
+pub mod Dispatch
