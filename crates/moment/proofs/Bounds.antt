@@ -1,15 +1,18 @@
 -- The ranges of the fields, through each step of the rules that fills. Assumes nothing.
-use mathlib.Core.Bool.{true, false, not}
+use mathlib.Core.Bool.{Bool, true, false, not}
 use mathlib.Core.Path.{_≡_, refl, sym, _∙_, subst}
 use Prim.Native.Nat.{ℕ, _+_, _-_, _*_, _%_, _≤_, _<_}
 use native.Mathlib.Omega.{arith}
 use borrow.Author.Tests.{leb-true}
 use lib.Dec.{eqb, leb}
-use lib.Ieee.{Float}
-use Rattle.rules.specs.Basics.{if_then_else_}
-use Rattle.rules.specs.Calendar.{year, instant, last, inRange, midnight, civil}
+use lib.IntN.{ℤ}
+use lib.Ieee.{Float, ofInt, round, le}
+use Rattle.rules.specs.Basics.{if_then_else_, move}
+use Rattle.rules.specs.Calendar.{year, instant, last, inRange, midnight, civil, timeOfDay}
 use Rattle.rules.specs.Moments as rule
-use Rattle.rules.specs.Moments.{blank, failure, noZone, counted, clear, setDate, setDated, setTime, setTimed, setZone, setRaw, setSubsec, setUtc, timeMs, withTime, sumOf, countMs, fillDate, onTime, fillTime, fill, pastEnd}
+use Rattle.rules.specs.Moments.{blank, failure, noZone, counted, clear, setMs, setDate, setDated, setTime, setTimed, setZone, setRaw, setSubsec, setUtc, setLocal, setCounted, setOver, moved, timeMs, withTime, sumOf, countMs, onDate, fillDate, onTime, fillTime, fill, pastEnd, shift}
+use Rattle.rules.specs.Floats.{number}
+use Rattle.rules.specs.Modifiers.{signed, nearestMs, atMs}
 use Rattle.rules.specs.Reading.{timed, now, isJulian, rawNumber}
 use Rattle.rules.specs.declared.Time.{Time}
 use Rattle.calendar.specs.Ranges.{MonthDay, Countable}
@@ -17,14 +20,17 @@ use Rattle.calendar.proofs.Counting.{countable}
 use Rattle.calendar.proofs.Instants.{start-is, date-of, time-high}
 use Rattle.calendar.proofs.Years.{days-high, month-low}
 use Rattle.real.specs.InMinute.{inMinute}
+use Rattle.real.specs.StepMost.{stepMost}
 use Rattle.real.proofs.Tests.{and-right}
 use Rattle.real.proofs.Seconds.{minute-ms, filled-minute}
 use Rattle.real.proofs.Epoch.{julian-ms}
 use Rattle.moment.specs.declared.Moment.{Moment}
 use Rattle.moment.specs.Held.{held}
-use Rattle.moment.specs.Ranges.{sumTakes, TimeIn, TimeRead, Sane, ReadYear, Near, After, Filled}
+use Rattle.moment.specs.Ranges.{sumTakes, TimeIn, TimeRead, Sane, ReadYear, Near, After, Filled, Moved}
+use Rattle.moment.specs.Steps.{firstOfMonth, firstOfYear}
 use Rattle.moment.proofs.Branches.{never, either, by-test}
-use Rattle.moment.proofs.Steps.{taken}
+use Rattle.moment.proofs.Steps.{taken, count-cases}
+use Rattle.moment.proofs.Ways.{move-back}
 
 -- ---- a step of the rules that keeps the ranges, and the code's that hands the same record back
 pub record Keeps (f : rule.Moment → rule.Moment) : Type 0 where
@@ -33,6 +39,9 @@ pub record Keeps (f : rule.Moment → rule.Moment) : Type 0 where
 
 pub filled : (f : rule.Moment → rule.Moment) → Keeps f → (p r : Moment) → Sane (held p) → held r ≡ f (held p) → Filled p r (f (held p))
 filled f k p r s e = record { is = e; sane = subst (λ (x : rule.Moment). Sane x) (sym e) (k .sane (held p) s); after = λ n a. subst (λ (x : rule.Moment). After n x) (sym e) (k .after n (held p) a) }
+
+pub same : (p : Moment) → Sane (held p) → Filled p p (held p)
+same p s = record { is = refl; sane = s; after = λ n a. a }
 
 -- and a record that is made
 pub made : {r : Moment} {q : rule.Moment} → After 0 q → held r ≡ q → (held r ≡ q) × After 0 (held r)
@@ -43,6 +52,10 @@ pub both : (f g : rule.Moment → rule.Moment) → Keeps f → Keeps g → Keeps
 both f g k l = record { sane = λ p s. l .sane (f p) (k .sane p s); after = λ n p a. l .after n (f p) (k .after n p a) }
 
 -- ---- nothing is known
+no-seconds : inMinute (number 0) ≡ true
+unfolding ofInt round le
+no-seconds = refl
+
 no-time : {second : Float} → TimeIn 0 0 false second noZone
 no-time = record { hours = omega arith; minutes = omega arith; seconds = λ h. never (sym h); zone-low = omega arith; zone-high = omega arith }
 
@@ -197,3 +210,82 @@ after-raw n =
   where
     s : Sane (setRaw (setTime blank 0 0 n) true)
     s = record { date = omega arith; time = no-time; overs = omega arith }
+
+-- ---- a month shift: the year may lie out of its range
+pub sane-shift : (p : rule.Moment) (z : ℤ) (k : ℕ) → Sane p → Sane (shift p z k)
+unfolding shift
+sane-shift p z k s = let m = move (p .year * 12 + (p .month - 1)) z k in record { date = record { month-low = omega arith; month-high = omega arith; day-low = s .date .day-low; day-high = s .date .day-high }; time = s .time; overs = s .overs }
+
+-- ---- the modifiers' setters
+pub local-keeps : Keeps setLocal
+local-keeps = record { sane = λ p s. s; after = λ n p a. record { sane = a .sane; years = a .years; near = a .near } }
+
+pub raw-keeps : (b : Bool) → Keeps (λ p. setRaw p b)
+raw-keeps b = record { sane = λ p s. s; after = λ n p a. record { sane = a .sane; years = a .years; near = a .near } }
+
+pub uncounted-keeps : Keeps (λ p. setCounted p false)
+uncounted-keeps = record { sane = λ p s. s; after = λ n p a. record { sane = a .sane; years = a .years; near = a .near } }
+
+pub undated-keeps : Keeps (λ p. setDated p false)
+undated-keeps = record { sane = λ p s. s; after = λ n p a. record { sane = a .sane; years = λ h. never (sym h); near = a .near } }
+
+pub over-keeps : Keeps (λ p. setOver p 0)
+over-keeps = record { sane = λ p s. none p s; after = λ n p a. record { sane = none p (a .sane); years = a .years; near = a .near } }
+  where
+    none : (p : rule.Moment) → Sane p → Sane (setOver p 0)
+    none p s = record { date = s .date; time = s .time; overs = omega arith }
+
+-- the milliseconds moved
+pub near-moved : (n t k : ℕ) (b : Bool) → k ≤ stepMost → Near n t → Near (n + 1) (move t (signed b k) 1)
+near-moved n t k false h a = omega arith
+near-moved n t k true h a = rw (move-back t k 1) (omega arith)
+
+pub moved-after : (n : ℕ) (p : rule.Moment) (b : Bool) (k : ℕ) → k ≤ stepMost → After n p → After (n + 1) (clear (moved p (signed b k) 1))
+moved-after n p b k h a = record { sane = clear-keeps .sane p (a .sane); years = λ e. never (sym e); near = near-moved n (p .ms) k b h (a .near) }
+
+pub step-moved : (p r : Moment) (b : Bool) (k : ℕ) → Sane (held p) → k ≤ stepMost → held r ≡ clear (moved (held p) (signed b k) 1) → Moved p r (clear (moved (held p) (signed b k) 1))
+step-moved p r b k s h e = record { is = e; sane = subst (λ (x : rule.Moment). Sane x) (sym e) (clear-keeps .sane (held p) s); after = λ n a. subst (λ (x : rule.Moment). After (n + 1) x) (sym e) (moved-after n (held p) b k h a) }
+
+-- ---- `auto`, `unixepoch`
+pub at-keeps : (r : Float) → nearestMs r ≤ 464269060800000 → Keeps (λ p. atMs p r)
+at-keeps r h = record { sane = λ p s. clear-keeps .sane p s; after = λ n p a. record { sane = clear-keeps .sane p (a .sane); years = λ e. never (sym e); near = omega arith } }
+
+-- ---- `start of`
+-- what `dayStart` makes of a date
+abbrev pub atStart : rule.Moment → rule.Moment
+atStart p = setOver (setZone (setCounted (setRaw (setTimed (setTime p 0 0 (number 0)) true) false) false) noZone) 0
+
+pub start-keeps : Keeps atStart
+start-keeps = record { sane = λ p s. started p s; after = λ n p a. record { sane = started p (a .sane); years = a .years; near = a .near } }
+  where
+    midnight-time : TimeIn 0 0 true (number 0) noZone
+    midnight-time = record { hours = omega arith; minutes = omega arith; seconds = λ _. no-seconds; zone-low = omega arith; zone-high = omega arith }
+
+    started : (p : rule.Moment) → Sane p → Sane (atStart p)
+    started p s = record { date = s .date; time = midnight-time; overs = omega arith }
+
+pub month-keeps : Keeps firstOfMonth
+month-keeps = record { sane = λ p s. first p s; after = λ n p a. record { sane = first p (a .sane); years = a .years; near = a .near } }
+  where
+    first : (p : rule.Moment) → Sane p → Sane (firstOfMonth p)
+    first p s = record { date = record { month-low = s .date .month-low; month-high = s .date .month-high; day-low = omega arith; day-high = omega arith }; time = s .time; overs = s .overs }
+
+pub year-keeps : Keeps firstOfYear
+year-keeps = record { sane = λ p s. first p s; after = λ n p a. record { sane = first p (a .sane); years = a .years; near = a .near } }
+  where
+    first : (p : rule.Moment) → Sane p → Sane (firstOfYear p)
+    first p s = record { date = omega arith; time = s .time; overs = s .overs }
+
+-- ---- years, where a month shift reckons with them
+count-year : (p : rule.Moment) → ReadYear (p .year) → ReadYear ((countMs p) .year)
+count-year p h = count-cases (λ (q : rule.Moment). ReadYear (q .year)) p (λ _. h) (omega arith) (λ _. h) (λ _. h)
+
+pub fill-year : (n : ℕ) (p : rule.Moment) → After n p → ReadYear ((fill p) .year)
+unfolding fill fillTime fillDate
+fill-year n p a = either (λ (q : rule.Moment). ReadYear (q .year)) ((fillDate p) .timed) (fillDate p) (onTime (countMs (fillDate p)) (timeOfDay ((countMs (fillDate p)) .ms))) date (count-year (fillDate p) date)
+  where
+    date : ReadYear ((fillDate p) .year)
+    date =
+        by-test (λ (q : rule.Moment). ReadYear (q .year)) (p .dated) p (if p .counted then (if inRange (p .ms) then onDate p (civil (p .ms)) else failure) else setDated (setDate p (year 2000) 1 1) true) (λ h. a .years h)
+        (λ _. either (λ (q : rule.Moment). ReadYear (q .year)) (p .counted) (if inRange (p .ms) then onDate p (civil (p .ms)) else failure) (setDated (setDate p (year 2000) 1 1) true)
+        (by-test (λ (q : rule.Moment). ReadYear (q .year)) (inRange (p .ms)) (onDate p (civil (p .ms))) failure (λ h. filled-date p h .after n p a .years refl) (λ _. omega arith)) (omega arith))

@@ -8,6 +8,11 @@ use Rattle.rules.specs.Basics.{if_then_else_}
 pub never : {A : Type 0} → true ≡ false → A
 never h = let q : _≡_ {A = ℕ} 0 1 = ap (λ (b : Bool). if b then 0 else 1) h in absurd (omega arith)
 
+-- the branch that is picked
+pub branch-false : {A : Type 0} (b : Bool) (x y : A) → b ≡ false → (if b then x else y) ≡ y
+branch-false true x y h = never h
+branch-false false x y h = refl
+
 -- what holds of both branches
 pub either : {A : Type 0} (P : A → Type 0) (b : Bool) (x y : A) → P x → P y → P (if b then x else y)
 either P true x y h k = h

@@ -5,3 +5,9 @@ pub mod Branches
 pub mod Steps
 -- the ranges of the fields, through each step
 pub mod Bounds
+-- numbers with a sign
+pub mod Ways
+-- the modifiers' steps, case by case
+pub mod Modifiers
+-- one step after another
+pub mod Chains

@@ -4,11 +4,13 @@ use mathlib.Core.Path.{_≡_}
 use Prim.Native.Nat.{ℕ, _+_, _-_, _*_, _≤_, _<_}
 use native.Mathlib.Omega.{arith}
 use borrow.Author.Tests.{eq-eqb, ne-eqb, le-leb, lt-leb, leb-true}
-use lib.Dec.{leb}
+use lib.Dec.{eqb, leb}
+use Rattle.rules.specs.Basics.{if_then_else_}
 use lib.Ieee.{Float}
 use Rattle.rules.specs.Calendar.{year, minusYear, instant, last, inRange, midnight, civil, timeOfDay}
 use Rattle.calendar.specs.Ranges.{MonthDay, Countable}
 use Rattle.moment.specs.Ranges.{sumTakes}
+use Rattle.moment.proofs.Branches.{either, by-test}
 use Rattle.real.proofs.Tests.{and-left, and-right}
 use Rattle.rules.specs.Reading.{timed, isJulian, julianMs, rawNumber}
 use Rattle.rules.specs.declared.Time.{Time}
@@ -60,6 +62,16 @@ count-dated p h k = rw (h, k)
 pub count-undated : (p : Moment) → p .counted ≡ false → p .dated ≡ false → countMs p ≡ sumOf p (year 2000) 1 1
 unfolding countMs
 count-undated p h k = rw (h, k)
+
+-- what comes of it: the record as it stood; the error record; or milliseconds that stand, and the fields cleared where a zone was taken off
+pub count-cases : (P : Moment → Type 0) (p : Moment) → (p .counted ≡ true → P p) → P failure → ((t : ℕ) → P (counted p t)) → ((t : ℕ) → P (setUtc (clear (counted p t)))) → P (countMs p)
+unfolding countMs sumOf withTime
+count-cases P p stands fails sums clears =
+    by-test P (p .counted) p (if p .dated then sumOf p (p .year) (p .month) (p .day) else sumOf p (year 2000) 1 1) stands
+    (λ _. either P (p .dated) (sumOf p (p .year) (p .month) (p .day)) (sumOf p (year 2000) 1 1) (sum (p .year) (p .month) (p .day)) (sum (year 2000) 1 1))
+  where
+    sum : (y m d : ℕ) → P (sumOf p y m d)
+    sum y m d = either P (sumTakes y (p .raw)) (withTime (counted p (midnight y m d))) failure (either P (p .timed) _ (counted p (midnight y m d)) (either P (eqb (p .zone) noZone) _ _ (sums _) (clears _)) (sums _)) fails
 
 -- ---- fillDate
 pub date-stands : (p : Moment) → p .dated ≡ true → fillDate p ≡ p

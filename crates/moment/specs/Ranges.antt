@@ -4,13 +4,16 @@ use mathlib.Core.Bool.{Bool, true, not, _&&_}
 use mathlib.Core.Path.{_≡_}
 use lib.Dec.{leb}
 use lib.Ieee.{Float}
+use Rattle.rules.specs.Basics.{Read, got, refuse}
 use Rattle.rules.specs.Calendar.{year, minusYear, instant}
 use Rattle.rules.specs.Moments as rule
 use Rattle.rules.specs.declared.Time.{Time}
-use Rattle.calendar.specs.Ranges.{MonthDay}
+use Rattle.calendar.specs.Ranges.{MonthDay, InRange}
 use Rattle.real.specs.InMinute.{inMinute}
 use Rattle.real.specs.StepMost.{stepMost}
 use Rattle.moment.specs.declared.Moment.{Moment}
+use Rattle.moment.specs.declared.Step.{Step}
+use Rattle.moment.specs.declared.Step.the-variants.{Next, Refused}
 use Rattle.moment.specs.Held.{held}
 
 -- a time of day as it is read or filled: hour 24 too, the seconds where the time stands, a zone of at most 14:59, as it is held
@@ -53,6 +56,15 @@ pub record After (n : ℕ) (p : rule.Moment) : Type 0 where
   pub years : p .dated ≡ true → ReadYear (p .year)
   pub near : Near n (p .ms)
 
+-- before the last of "over 16 modifiers" is read: a further one may move the milliseconds, and they fit 64 bits
+abbrev pub Movable : rule.Moment → Type 0
+Movable p = After 15 p
+
+-- a record that passed the final range
+pub record Ranged (p : rule.Moment) : Type 0 where
+  pub ranged : InRange (p .ms)
+  pub stands : p .counted ≡ true
+
 -- ---- what a step hands back
 -- r for p by a step that fills, where the rules say q
 pub record Filled (p r : Moment) (q : rule.Moment) : Type 0 where
@@ -60,7 +72,23 @@ pub record Filled (p r : Moment) (q : rule.Moment) : Type 0 where
   pub sane : Sane (held r)
   pub after : (n : ℕ) → After n (held p) → After n (held r)
 
--- r for p by a modifier, where the rules say q
+-- r for p by a modifier that moves the milliseconds, where the rules say q
 pub record Moved (p r : Moment) (q : rule.Moment) : Type 0 where
   pub is : held r ≡ q
+  pub sane : Sane (held r)
   pub after : (n : ℕ) → After n (held p) → After (n + 1) (held r)
+
+-- ---- and one that may be refused
+abbrev pub readOf : Step → Read rule.Moment
+readOf (Next p) = got (held p)
+readOf (Refused x) = refuse x
+
+-- what holds of the record, if there is one
+abbrev pub Lands : (rule.Moment → Type 0) → Step → Type 0
+Lands P (Next p) = P (held p)
+Lands P (Refused x) = Unit {0}
+
+-- s for p, where the rules say q
+pub record Answered (p : Moment) (s : Step) (q : Read rule.Moment) : Type 0 where
+  pub is : readOf s ≡ q
+  pub after : (n : ℕ) → After n (held p) → Lands (λ r. After n r) s

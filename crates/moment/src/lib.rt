@@ -13,7 +13,11 @@ ghost use Rattle.calendar.specs.Ranges.{MonthDay};
 ghost use Rattle.real.specs.InMinute.{inMinute};
 ghost use Rattle.moment.specs.Held.{held};
 ghost use Rattle.moment.specs.Ranges.{sumTakes, TimeRead, ReadYear, Near, Sane, After, Filled};
+use rules::Refusal;
 use rules::Time;
+
+mod modify;
+mod signs;
 
 pub struct Moment {
     pub ms: u64,
@@ -40,6 +44,12 @@ pub struct Moment {
     // it is known to be UTC, and to be local time
     pub utc: bool,
     pub local: bool,
+}
+
+// What comes of a step that may be refused.
+pub enum Step {
+    Next(Moment),
+    Refused(Refusal),
 }
 
 // The millisecond 0 and the last, and the Unix epoch.
