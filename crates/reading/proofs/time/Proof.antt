@@ -63,7 +63,7 @@ returns-4 c =
     let h : (n .0 ≤ 24) × (n .1 .0 ≤ 59) = rw (c .before .before .before .before .before .before .before .before .before .hour .given .1) at (c .before .before .before .before .before .before .before .before .before .before .before .hour-minute .ensures .1) in
     let z : InZones (c .before .zone2 .given .0 .0) = rw (c .before .zone2 .given .1) at (c .before .before .before .zone .ensures .1) in (
       sym (time-of _ _ _ _ (first (c .before .before .before .before .before .before .before .before)) _ _ (second (c .before .before .before .before)) _ _ (read-as zoneOf (c .before .before .before .zone .ensures .0) (c .before .zone2 .given .1))),
-      λ k. record { hours = h .0; minutes = h .1; seconds = (rw (c .before .before .before .before .before .second .given .1) at (c .before .before .before .before .before .before .before .seconds .ensures .1)) k; zones = z },
+      λ k. record { hours = h .0; minutes = h .1; seconds = λ t. (rw (c .before .before .before .before .before .second .given .1) at (c .before .before .before .before .before .before .before .seconds .ensures .1)) k; zone-low = z .low; zone-high = z .high },
     )
 
 pub time-spec : {M : Type 1} → statement M
