@@ -16,7 +16,7 @@ use Rattle.moment.specs.Ranges.{ReadYear, Sane, After}
 use Rattle.moment.proofs.Branches.{either}
 use Rattle.moment.proofs.Bounds.{Keeps, count-keeps}
 use Rattle.text.specs.Places.{begins, gap}
-use Rattle.text.proofs.Numbers.{digits-short}
+use Rattle.text.proofs.Digits.{digits-short}
 use Rattle.reading.specs.Readers.{yearMonthDay, heldYear}
 use Rattle.reading.proofs.Steps.{or-other, then-then, char-then, digits-then}
 

@@ -105,7 +105,7 @@ pub fn four_digits(s: &[u8], at: usize, lo: u32, hi: u32) -> Found
 }
 
 // How many bytes stand from a place on.
-fn left(s: &[u8], at: usize) -> usize
+pub fn left(s: &[u8], at: usize) -> usize
     ensures { λ r. ⌜ r ≡ length (now (s .entry)) - at ⌝ }
 {
     if at <= s.len() { s.len() - at } else { 0 }

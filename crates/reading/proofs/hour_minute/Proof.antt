@@ -6,7 +6,7 @@ use borrow.Author.Needs.{needs}
 use borrow.Author.Tests.{not-true, not-false}
 use denote.Ref.{now}
 use Rattle.rules.specs.Basics.{got, byte, digits}
-use Rattle.text.proofs.Numbers.{read-of, told-of}
+use Rattle.text.proofs.Reading.{read-of, told-of}
 use Rattle.reading.proofs.Steps.{char-got, char-other, inside}
 use Rattle.reading.proofs.Zones.{five-bytes, no-hour, no-colon, no-minute, hour-and-minute}
 use Rattle.reading.proofs.hour_minute.Statement.{statement}

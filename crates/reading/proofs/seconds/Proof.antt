@@ -14,7 +14,7 @@ use Rattle.rules.specs.Reading as rule
 use Rattle.real.specs.InMinute.{inMinute}
 use Rattle.real.proofs.Literals.{nil}
 use Rattle.text.specs.Places.{begins}
-use Rattle.text.proofs.Numbers.{read-of, told-of}
+use Rattle.text.proofs.Reading.{read-of, told-of}
 use Rattle.reading.proofs.Steps.{inside}
 use Rattle.reading.proofs.Fractions.{no-seconds, colon-at, not-digits, with-fraction, zero-minute, minute}
 use Rattle.reading.proofs.seconds.Statement.{statement}

@@ -5,7 +5,7 @@ use lib.ListN.{drop, length-drop}
 use borrow.Author.Tests.{not-true, not-false}
 use denote.Ref.{now}
 use Rattle.rules.specs.Basics.{got, byte, digits}
-use Rattle.text.proofs.Numbers.{read-of, told-of}
+use Rattle.text.proofs.Reading.{read-of, told-of}
 use Rattle.reading.proofs.Steps.{char-got, char-other, inside}
 use Rattle.reading.proofs.Dates.{ten-bytes, no-year, no-dash, no-month, no-second, no-day, ymd}
 use borrow.Author.Needs.{needs}
