@@ -14,11 +14,11 @@ use Rattle.rules.specs.Reading.{time, timed, timeAfter, settled, dateFrom, date
 use Rattle.rules.specs.declared.Time.{Time}
 use Rattle.moment.specs.Ranges.{ReadYear, Sane, After}
 use Rattle.moment.proofs.Branches.{either}
-use Rattle.moment.proofs.Bounds.{Keeps, count-keeps}
-use Rattle.text.specs.Places.{gap}
+use Rattle.moment.proofs.Bounds.{Kept, count-kept}
+use Rattle.text.specs.Places.{begins, gap}
 use Rattle.text.proofs.Digits.{digits-short}
 use Rattle.reading.specs.Readers.{yearMonthDay, heldYear}
-use Rattle.reading.proofs.Steps.{begins, or-other, then-then, char-then, digits-then}
+use Rattle.reading.proofs.Steps.{or-other, then-then, char-then, digits-then}
 
 -- ---- YYYY-MM-DD
 module _ (low months days : ℕ) (l : List ℕ) where
@@ -76,10 +76,10 @@ held-year-in true y r h e = omega arith
 held-year-in false y r h e = omega arith
 
 -- ---- a zone taken off
-pub settled-keeps : Keeps settled
-settled-keeps = record {
-  sane = λ p s. either Sane (eqb (p .zone) noZone) p (countMs p) s (count-keeps .sane p s);
-  after = λ n p a. either (After n) (eqb (p .zone) noZone) p (countMs p) a (count-keeps .after n p a);
+pub settled-kept : (p : Moment) → Kept p (settled p)
+settled-kept p = record {
+  sane = λ s. either Sane (eqb (p .zone) noZone) p (countMs p) s (count-kept p .sane s);
+  after = λ n a. either (After n) (eqb (p .zone) noZone) p (countMs p) a (count-kept p .after n a);
 }
 
 -- ---- with the time after it

@@ -41,7 +41,7 @@ pub fn is_wide(b: u8) -> bool
     is_space(b) || b == 11
 }
 
-// "Between date and time any run of whitespace and `T`": the capital alone.
+// "Between date and time any run of whitespace and `T`": "lower `t` does not" read.
 pub fn is_gap(b: u8) -> bool
     ensures { λ r. ⌜ r ≡ gap b ⌝ }
 {
