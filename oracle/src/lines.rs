@@ -172,8 +172,11 @@ pub fn answer(reading: Reading, line: &[u8], out: &mut Vec<u8>) {
 /// Refusal 2, for a line of a known function.
 fn misshapen(line: &[u8], function: Function) -> bool {
     let mut fields = line.split(|&b| b == b'\t').skip(1);
-    let bad_format =
-        function == Function::Strftime && !fields.next().is_some_and(|f| f.len() <= FORMAT_LIMIT);
+    let bad_format = function == Function::Strftime
+        && match fields.next() {
+            Some(format) => format.len() > FORMAT_LIMIT,
+            None => true,
+        };
     let values = if function == Function::Timediff { 2 } else { 1 };
     let modifiers = if function == Function::Timediff { 0 } else { MODIFIERS_LIMIT };
     let mut count = 0;

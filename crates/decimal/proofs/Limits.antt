@@ -13,7 +13,7 @@ use Rattle.real.proofs.Sign.{round-neg}
 use Rattle.rules.specs.Basics.{if_then_else_, Read, got, other, refuse, _>>=_}
 use Rattle.rules.specs.Decimal.{value, nearestTo}
 use Rattle.rules.specs.declared.Refusal.{Refusal}
-use Rattle.decimal.specs.Reads.{held, heldExponent}
+use Rattle.decimal.specs.Held.{held, heldExponent}
 
 -- ---- the number that digits write, held
 

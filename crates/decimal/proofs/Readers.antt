@@ -13,7 +13,7 @@ use lib.Dec.{eqb, leb}
 use lib.Seq.{drop-cons}
 use Rattle.rules.specs.Basics.{ascii, is, isDigit, lower, word, Read, got, other, ended, _>>=_}
 use Rattle.rules.specs.Decimal.{sign, run, value, point, some, exponent, digitsForm, namedForm}
-use Rattle.decimal.specs.Reads.{held, heldExponent, Taken}
+use Rattle.decimal.specs.Held.{held, heldExponent, Taken}
 use Rattle.decimal.specs.declared.Digits.{Digits}
 use Rattle.decimal.proofs.Limits.{held-value, value-append, scaled, held-scaled}
 

@@ -4,10 +4,18 @@ use mathlib.Core.Bool.{Bool, not}
 use Prim.Native.Nat.{ℕ, _+_, _*_, _^_, _≤_, _<_}
 use lib.Dec.{T}
 
--- n is d moved up by s places, so that its highest bit is the 63rd
+-- moved up by s places, n has its highest bit at the 63rd
+pub record Room (n s : ℕ) : Type 0 where
+  pub full : 2 ^ 63 ≤ n * 2 ^ s
+  pub wide : n * 2 ^ s < 2 ^ 64
+  pub few : s < 64
+  pub some : n < 2 ^ 63 → 0 < s
+
+-- n is d, so moved
 pub record Led (d n s : ℕ) : Type 0 where
   pub is : n ≡ d * 2 ^ s
   pub full : 2 ^ 63 ≤ n
+  pub wide : n < 2 ^ 64
   pub few : s ≤ 63
 
 -- n * 2 ^ t / by is m, of 64 bits, and a rest, which is not 0 exactly where `sticky`

@@ -8,7 +8,8 @@
 //     1e23   1e-23   12345678901234567890   1.0000000000000000000      are over the limits: power 23, power -23, 20 digits
 //
 // A reader takes the slice and a place `at` in it, and hands back the place `next` where it stopped.
-// The number that digits write is held up to 10^19, and as 10^19 from there on: that is over 19 digits, and over any power.
+// The number that digits write is held up to 10^19, and as 10^19 from there on: as D it has more than 19 digits, and as an exponent no
+// digits after the point, of which a slice has fewer than 2^63, bring it back to 22.
 ghost use mathlib.Core.Path.{_≡_};
 ghost use mathlib.Core.Bool.{_||_};
 ghost use Prim.Native.Nat.{_+_, _*_, _^_, _≤_, _<_, min};
@@ -17,9 +18,15 @@ ghost use lib.Ieee.{neg};
 ghost use Rattle.rules.specs.Basics.{if_then_else_, is, isDigit};
 ghost use Rattle.rules.specs.Basics.{lower as Basics·lower, word as Basics·word};
 ghost use Rattle.rules.specs.Decimal as rule;
-ghost use Rattle.decimal.specs.Reads.{asRead, asExponent, held, heldExponent, Taken};
+ghost use Rattle.decimal.specs.AsRead.{asRead};
+ghost use Rattle.decimal.specs.Held.{asExponent, held, heldExponent, Taken};
 
 mod nearest;
+
+// The limits of document 01: 10^19 is the first D of more than 19 digits, and 22 the highest power of the last digit, or the lowest below zero.
+const OVER: u64 = 10000000000000000000;
+
+const POWER: u64 = 22;
 
 // What a text is: no decimal, one that is over the limits (refusal 5), or this f64.
 pub enum Number {
@@ -211,6 +218,7 @@ fn is_digit(b: u8) -> bool
     48 <= b && b <= 57
 }
 
+// The cast stands in a function of its own, which needs no proof that a byte of a slice fits.
 fn wide(b: u8) -> u64
     ensures { λ r. ⌜ r ≡ b ⌝ }
 {
@@ -222,10 +230,10 @@ fn more(value: u64, digit: u64) -> u64
     requires { ⌜ (value ≤ 10 ^ 19) × (digit ≤ 9) ⌝ }
     ensures { λ r. ⌜ r ≡ held (value * 10 + digit) ⌝ }
 {
-    if value < 1000000000000000000 {
+    if value < OVER / 10 {
         value * 10 + digit
     } else {
-        10000000000000000000
+        OVER
     }
 }
 
@@ -267,12 +275,16 @@ fn is_e(b: u8) -> bool
     b == b'e' || b == b'E'
 }
 
-// The digits after the point and a negative exponent together. From 23 on it makes no difference how large the exponent is.
+// The digits after the point and a negative exponent together. Past 22 it makes no difference how large the exponent is.
 fn lowered(tenths: u64, e: u64) -> u64
     requires { ⌜ tenths < 2 ^ 63 ⌝ }
     ensures { λ r. ⌜ r ≡ tenths + min e 23 ⌝ }
 {
-    if e < 23 { tenths + e } else { tenths + 23 }
+    if e <= POWER {
+        tenths + e
+    } else {
+        tenths + POWER + 1
+    }
 }
 
 // "Limits: D, the digits written without leading zeros, has at most 19; the last digit's power of ten is -22 to 22. D = 0 always fits."
@@ -283,16 +295,16 @@ fn nearest_to(minus: bool, d: u64, up: u64, down: u64) -> Number
     if d == 0 {
         return Number::Is(with_sign(minus, 0.0));
     }
-    if 10000000000000000000 <= d {
+    if OVER <= d {
         return Number::Over;
     }
     if down <= up {
-        if 22 < up - down {
+        if POWER < up - down {
             return Number::Over;
         }
         return Number::Is(with_sign(minus, nearest::above(d, up - down)));
     }
-    if 22 < down - up {
+    if POWER < down - up {
         return Number::Over;
     }
     Number::Is(with_sign(minus, nearest::below(d, down - up)))

@@ -1,23 +1,32 @@
 // D times a power of ten to the nearest f64, ties to even, for D from 1 to 2^64 - 1 and powers from -22 to 22.
 //
-// Where D is below 2^53, it and 10^22 are f64 exactly, and one division or one product in f64 is rounded once, from the exact value.
+// A whole number below 2^53 is an f64 exactly, and so is a power of ten up to 10^22, since 5^22 is below 2^53. So where D is below 2^53, one
+// division or one product in f64 is the exact value rounded once.
 // Otherwise the 64 highest bits of the exact value are worked out over whole numbers, with whether anything is left below them (`sticky`),
 // and rounded to the 53 that an f64 keeps. The twos of 10^k = 5^k * 2^k only move the exponent.
 ghost use mathlib.Core.Path.{_≡_};
-ghost use Prim.Native.Nat.{_+_, _*_, _^_, _≤_, _<_};
+ghost use Prim.Native.Nat.{_+_, _*_, _^_, _≤_, _<_, min};
 ghost use mathlib.Core.Bool.{false};
 ghost use lib.Ieee.{ofBits, round, binary64};
 ghost use lib.Ieee.Exact.{HasValue};
 ghost use Rattle.real.proofs.Pack.{near11};
 ghost use Rattle.real.proofs.Pack.{up11 as Pack·up11};
-ghost use Rattle.decimal.specs.Steps.{Led, Divided, Narrowed};
+ghost use Rattle.decimal.specs.Steps.{Room, Led, Divided, Narrowed};
+
+const EXACT: u64 = 9007199254740992; // 2^53
+
+const HIGHEST: u64 = 9223372036854775808; // 2^63: the highest bit of a word
+
+const HALF: u64 = 4294967296; // 2^32: half a word
+
+const FIELD: u64 = 4503599627370496; // 2^52: the weight of the exponent's field in an f64's bit pattern
 
 // d / 10^k.
 pub fn below(d: u64, k: u64) -> f64
     requires { ⌜ (0 < d) × (k ≤ 22) ⌝ }
     ensures { λ r. ⌜ r ≡ round binary64 false d (10 ^ k) ⌝ }
 {
-    if d < 9007199254740992 {
+    if d < EXACT {
         return d as f64 / ten_to(k);
     }
     divided(d, k)
@@ -28,7 +37,7 @@ pub fn above(d: u64, k: u64) -> f64
     requires { ⌜ (0 < d) × (k ≤ 22) ⌝ }
     ensures { λ r. ⌜ r ≡ round binary64 false (d * 10 ^ k) 1 ⌝ }
 {
-    if d < 9007199254740992 {
+    if d < EXACT {
         return d as f64 * ten_to(k);
     }
     multiplied(d, k)
@@ -73,7 +82,7 @@ struct Top {
     sticky: bool,
 }
 
-// d / 10^k, for any d.
+// d / 10^k, for any d. The value is q.m * 2^-(q.t + l.s + k) and a rest.
 fn divided(d: u64, k: u64) -> f64
     requires { ⌜ (0 < d) × (k ≤ 22) ⌝ }
     ensures { λ r. ⌜ r ≡ round binary64 false d (10 ^ k) ⌝ }
@@ -84,7 +93,7 @@ fn divided(d: u64, k: u64) -> f64
     pack(q.m, q.sticky, 1085 - (q.t + l.s + k))
 }
 
-// d * 10^k, for any d.
+// d * 10^k, for any d. The value is q.m * 2^(q.t + k - l.s) and a rest.
 fn multiplied(d: u64, k: u64) -> f64
     requires { ⌜ (0 < d) × (k ≤ 22) ⌝ }
     ensures { λ r. ⌜ r ≡ round binary64 false (d * 10 ^ k) 1 ⌝ }
@@ -96,14 +105,14 @@ fn multiplied(d: u64, k: u64) -> f64
     pack(q.m, q.sticky, 1085 + q.t + k - l.s)
 }
 
-// m to its 53 highest bits, as an f64 whose last place among those 53 is 2^(e - 1074).
-// The highest bit adds one to the exponent's field, and so does a carry out of the 53.
+// m * 2^(e - 1085) to its 53 highest bits: the last of them counts 2^(e - 1074), as in a pattern whose exponent's field is e + 1.
+// The highest bit adds one to the field, and so does a carry out of the 53.
 fn pack(m: u64, sticky: bool, e: u64) -> f64
     requires { ⌜ (2 ^ 63 ≤ m) × (e ≤ 2000) ⌝ }
     ensures { λ r. ⌜ r ≡ ofBits binary64 (e * 2 ^ 52 + near11 m sticky) ⌝ }
 {
     let up = up11(m, sticky);
-    f64::from_bits(e * 4503599627370496 + (m / 2048 + up))
+    f64::from_bits(e * FIELD + (m / 2048 + up))
 }
 
 // What rounding adds to m / 2048, "ties to even": a tie is half of 2048 with nothing below it.
@@ -133,13 +142,26 @@ fn lead(d: u64) -> Moved
     requires { ⌜ 0 < d ⌝ }
     ensures { λ r. ⌜ Led d (r .n) (r .s) ⌝ }
 {
-    let mut n = d;
-    let mut s: u64 = 0;
-    while n < 9223372036854775808 {
-        n = n * 2;
-        s += 1;
+    let s = zeros(d);
+    Moved {
+        n: d * two_to(s),
+        s,
     }
-    Moved { n, s }
+}
+
+// By how many places n can be moved up.
+fn zeros(n: u64) -> u64
+    requires { ⌜ 0 < n ⌝ }
+    ensures { λ r. ⌜ Room n r ⌝ }
+{
+    u64::leading_zeros(n) as u64
+}
+
+fn two_to(j: u64) -> u64
+    requires { ⌜ j < 64 ⌝ }
+    ensures { λ r. ⌜ r ≡ 2 ^ j ⌝ }
+{
+    1 << j
 }
 
 // 5^k.
@@ -156,28 +178,33 @@ fn fives(k: u64) -> u64
     f
 }
 
-// n / by to 64 bits: long division, a bit at a time.
+// n / by to 64 bits: long division, up to 12 bits at a time.
 fn quotient(n: u64, by: u64) -> Top
-    requires { ⌜ (2 ^ 63 ≤ n) × (0 < by) × (by ≤ 2 ^ 62) ⌝ }
+    requires { ⌜ (2 ^ 63 ≤ n) × (0 < by) × (by ≤ 2 ^ 52) ⌝ }
     ensures { λ r. ⌜ Divided n by (r .m) (r .t) (r .sticky) ⌝ }
 {
     let mut m = n / by;
     let mut r = n % by;
     let mut t: u64 = 0;
-    while m < 9223372036854775808 {
-        m = m * 2;
-        r = r * 2;
-        if r >= by {
-            r = r - by;
-            m = m + 1;
-        }
-        t += 1;
+    while m < HIGHEST {
+        let j = twelve(zeros(m));
+        let f = two_to(j);
+        m = m * f + r * f / by;
+        r = r * f % by;
+        t += j;
     }
     Top {
         m,
         t,
         sticky: r > 0,
     }
+}
+
+// At most 12, so that r, which is below 2^52, can be moved up as far.
+fn twelve(j: u64) -> u64
+    ensures { λ r. ⌜ r ≡ min j 12 ⌝ }
+{
+    if j < 12 { j } else { 12 }
 }
 
 // A number in two words: hi * 2^64 + lo.
@@ -190,34 +217,36 @@ struct Wide {
 fn product(u: u64, v: u64) -> Wide
     ensures { λ r. ⌜ r .hi * 2 ^ 64 + r .lo ≡ u * v ⌝ }
 {
-    let u0 = u % 4294967296;
-    let u1 = u / 4294967296;
-    let v0 = v % 4294967296;
-    let v1 = v / 4294967296;
+    let u0 = u % HALF;
+    let u1 = u / HALF;
+    let v0 = v % HALF;
+    let v1 = v / HALF;
     let w0 = u0 * v0;
-    let t = u1 * v0 + w0 / 4294967296;
-    let w1 = u0 * v1 + t % 4294967296;
-    let hi = u1 * v1 + (t / 4294967296 + w1 / 4294967296);
-    let lo = w1 % 4294967296 * 4294967296 + w0 % 4294967296;
+    let t = u1 * v0 + w0 / HALF;
+    let w1 = u0 * v1 + t % HALF;
+    let hi = u1 * v1 + (t / HALF + w1 / HALF);
+    let lo = w1 % HALF * HALF + w0 % HALF;
     Wide { hi, lo }
 }
 
-// A number in two words to its 64 highest bits, a bit at a time.
+// A number in two words to its 64 highest bits.
 fn narrow(high: u64, low: u64) -> Top
-    requires { ⌜ 2 ^ 63 ≤ high * 2 ^ 64 + low ⌝ }
+    requires { ⌜ (2 ^ 63 ≤ high * 2 ^ 64 + low) × (high < 2 ^ 63) ⌝ }
     ensures { λ r. ⌜ Narrowed (high * 2 ^ 64 + low) (r .m) (r .t) (r .sticky) ⌝ }
 {
-    let mut hi = high;
-    let mut m = low;
-    let mut t: u64 = 0;
-    let mut sticky = false;
-    while hi > 0 {
-        if m % 2 == 1 {
-            sticky = true;
-        }
-        m = m / 2 + hi % 2 * 9223372036854775808;
-        hi = hi / 2;
-        t += 1;
+    if high == 0 {
+        return Top {
+            m: low,
+            t: 0,
+            sticky: false,
+        };
     }
-    Top { m, t, sticky }
+    let z = zeros(high);
+    let t = 64 - z;
+    let unit = two_to(t);
+    Top {
+        m: high * two_to(z) + low / unit,
+        t,
+        sticky: low % unit > 0,
+    }
 }

@@ -1,291 +1,263 @@
--- The ranges of the fields, through each step of the rules that fills. Assumes nothing.
-use mathlib.Core.Bool.{Bool, true, false, not}
-use mathlib.Core.Path.{_≡_, refl, sym, _∙_, subst}
-use Prim.Native.Nat.{ℕ, _+_, _-_, _*_, _%_, _≤_, _<_}
+-- The ranges of the fields, through each step of the rules. Assumes nothing.
+use mathlib.Core.Bool.{Bool, true, false, not, _&&_}
+use mathlib.Core.List.{List, [], _∷_}
+use mathlib.Core.Path.{_≡_, refl, sym, ap, _∙_, subst}
+use Prim.Native.Nat.{ℕ, _+_, _-_, _*_, _%_, _^_, _≤_, _<_}
 use native.Mathlib.Omega.{arith}
 use borrow.Author.Tests.{leb-true}
-use lib.Dec.{eqb, leb}
+use lib.Dec.{eqb, leb, ltb}
 use lib.IntN.{ℤ}
 use lib.Ieee.{Float, ofInt, round, le}
 use Rattle.rules.specs.Basics.{if_then_else_, move}
-use Rattle.rules.specs.Calendar.{year, instant, last, inRange, midnight, civil, timeOfDay}
-use Rattle.rules.specs.Moments as rule
-use Rattle.rules.specs.Moments.{blank, failure, noZone, counted, clear, setMs, setDate, setDated, setTime, setTimed, setZone, setRaw, setSubsec, setUtc, setLocal, setCounted, setOver, moved, timeMs, withTime, sumOf, countMs, onDate, fillDate, onTime, fillTime, fill, pastEnd, shift}
+use Rattle.rules.specs.Calendar.{year, instant, last, inRange, midnight, civil}
 use Rattle.rules.specs.Floats.{number}
+use Rattle.rules.specs.Functions.{renewed}
+use Rattle.rules.specs.Moments.{Moment, blank, failure, noZone, counted, clear, setDate, setDated, setTime, setTimed, setZone, setRaw, setSubsec, setUtc, setLocal, setCounted, setOver, moved, timeMs, withTime, sumOf, countMs, fillDate, onTime, fillTime, fill, pastEnd, shift}
 use Rattle.rules.specs.Modifiers.{signed, nearestMs, atMs}
 use Rattle.rules.specs.Reading.{timed, now, isJulian, rawNumber}
 use Rattle.rules.specs.declared.Time.{Time}
-use Rattle.calendar.specs.Ranges.{MonthDay, Countable}
+use Rattle.calendar.specs.Ranges.{MonthDay, Countable, InRange}
 use Rattle.calendar.proofs.Counting.{countable}
 use Rattle.calendar.proofs.Instants.{start-is, date-of, time-high}
 use Rattle.calendar.proofs.Years.{days-high, month-low}
 use Rattle.real.specs.InMinute.{inMinute}
 use Rattle.real.specs.StepMost.{stepMost}
-use Rattle.real.proofs.Within.{and-right}
+use Rattle.real.proofs.Tests.{and-right}
 use Rattle.real.proofs.Seconds.{minute-ms, filled-minute}
 use Rattle.real.proofs.Epoch.{julian-ms}
-use Rattle.moment.specs.declared.Moment.{Moment}
-use Rattle.moment.specs.Held.{held}
-use Rattle.moment.specs.Ranges.{sumTakes, TimeIn, TimeRead, Sane, ReadYear, Near, After, Filled, Moved}
+use Rattle.moment.specs.Ranges.{sumTakes, TimeIn, TimeRead, Sane, ReadYear, Near, After, Ranged, Full}
 use Rattle.moment.specs.Steps.{firstOfMonth, firstOfYear}
 use Rattle.moment.proofs.Branches.{never, either, by-test}
-use Rattle.moment.proofs.Steps.{taken, count-cases}
+use Rattle.moment.proofs.Steps.{taken, already, in-range, count-cases, date-cases, time-cases}
 use Rattle.moment.proofs.Ways.{move-back}
 
--- ---- a step of the rules that keeps the ranges, and the code's that hands the same record back
-pub record Keeps (f : rule.Moment → rule.Moment) : Type 0 where
-  pub sane : (p : rule.Moment) → Sane p → Sane (f p)
-  pub after : (n : ℕ) (p : rule.Moment) → After n p → After n (f p)
+-- ---- how far from the millisecond 0
 
-pub filled : (f : rule.Moment → rule.Moment) → Keeps f → (p r : Moment) → Sane (held p) → held r ≡ f (held p) → Filled p r (f (held p))
-filled f k p r s e = record { is = e; sane = subst (λ (x : rule.Moment). Sane x) (sym e) (k .sane (held p) s); after = λ n a. subst (λ (x : rule.Moment). After n x) (sym e) (k .after n (held p) a) }
-
-pub same : (p : Moment) → Sane (held p) → Filled p p (held p)
-same p s = record { is = refl; sane = s; after = λ n a. a }
-
--- and a record that is made
-pub made : {r : Moment} {q : rule.Moment} → After 0 q → held r ≡ q → (held r ≡ q) × After 0 (held r)
-made a e = (e, subst (λ (x : rule.Moment). After 0 x) (sym e) a)
-
--- one step after another
-pub both : (f g : rule.Moment → rule.Moment) → Keeps f → Keeps g → Keeps (λ p. g (f p))
-both f g k l = record { sane = λ p s. l .sane (f p) (k .sane p s); after = λ n p a. l .after n (f p) (k .after n p a) }
-
--- ---- nothing is known
-no-seconds : inMinute (number 0) ≡ true
-unfolding ofInt round le
-no-seconds = refl
-
-no-time : {second : Float} → TimeIn 0 0 false second noZone
-no-time = record { hours = omega arith; minutes = omega arith; seconds = λ h. never (sym h); zone-low = omega arith; zone-high = omega arith }
-
-pub sane-blank : Sane blank
-sane-blank = record { date = omega arith; time = no-time; overs = omega arith }
-
-pub after-blank : (n : ℕ) → After n blank
-after-blank n = record { sane = sane-blank; years = λ h. never (sym h); near = omega arith }
-
-pub after-failure : (n : ℕ) → After n failure
-after-failure n = record { sane = sane-blank; years = λ h. never (sym h); near = omega arith }
-
--- ---- setters
 pub near-more : (m n t : ℕ) → m ≤ n → Near m t → Near n t
 near-more m n t h k = omega arith
 
-pub after-more : (m n : ℕ) (p : rule.Moment) → m ≤ n → After m p → After n p
+-- "With 16 modifiers the milliseconds stay within 64 bits."
+pub near-fits : (n t : ℕ) → n ≤ 16 → Near n t → (0 < t) × (t < 2 ^ 64)
+near-fits n t h k = omega arith
+
+pub near-moved : (n t k : ℕ) (b : Bool) → k ≤ stepMost → Near n t → Near (n + 1) (move t (signed b k) 1)
+near-moved n t k false h a = omega arith
+near-moved n t k true h a = rw (move-back t k 1) (omega arith)
+
+pub after-more : (m n : ℕ) (p : Moment) → m ≤ n → After m p → After n p
 after-more m n p h a = record { sane = a .sane; years = a .years; near = near-more m n (p .ms) h (a .near) }
 
-pub clear-keeps : Keeps clear
-clear-keeps = record { sane = λ p s. cleared p s; after = λ n p a. record { sane = cleared p (a .sane); years = λ h. never (sym h); near = a .near } }
-  where
-    cleared : (p : rule.Moment) → Sane p → Sane (clear p)
-    cleared p s = record { date = s .date; time = record { hours = s .time .hours; minutes = s .time .minutes; seconds = λ h. never (sym h); zone-low = omega arith; zone-high = omega arith }; overs = s .overs }
+-- ---- a step from p to q that keeps the ranges
+pub record Kept (p q : Moment) : Type 0 where
+  pub sane : Sane p → Sane q
+  pub after : (n : ℕ) → After n p → After n q
 
-pub utc-keeps : Keeps setUtc
-utc-keeps = record { sane = λ p s. s; after = λ n p a. record { sane = a .sane; years = a .years; near = a .near } }
+abbrev Years : Moment → Type 0
+Years p = p .dated ≡ true → ReadYear (p .year)
 
-pub subsec-keeps : Keeps (λ p. setSubsec p true)
-subsec-keeps = record { sane = λ p s. s; after = λ n p a. record { sane = a .sane; years = a .years; near = a .near } }
+-- field by field: what stays is λ s. s
+kept : (p q : Moment) → (Sane p → Sane q) → (Years p → Years q) → ((n : ℕ) → Near n (p .ms) → Near n (q .ms)) → Kept p q
+kept p q s y t = record { sane = s; after = λ n a. record { sane = s (a .sane); years = y (a .years); near = t n (a .near) } }
 
-pub date-keeps : (y m d : ℕ) → ReadYear y → MonthDay m d → Keeps (λ p. setDated (setDate p y m d) true)
-date-keeps y m d r k = record { sane = λ p s. dated p s; after = λ n p a. record { sane = dated p (a .sane); years = λ h. r; near = a .near } }
-  where
-    dated : (p : rule.Moment) → Sane p → Sane (setDated (setDate p y m d) true)
-    dated p s = record { date = k; time = s .time; overs = s .overs }
+pub kept-same : (p : Moment) → Kept p p
+kept-same p = record { sane = λ s. s; after = λ n a. a }
+
+kept-then : (p q r : Moment) → Kept p q → Kept q r → Kept p r
+kept-then p q r k l = record { sane = λ s. l .sane (k .sane s); after = λ n a. l .after n (k .after n a) }
+
+-- a record anew
+kept-new : (p q : Moment) → (Sane p → After 0 q) → Kept p q
+kept-new p q h = record { sane = λ s. h s .sane; after = λ n a. after-more 0 n q (omega arith) (h (a .sane)) }
+
+-- ---- setters
+no-date : {A : Type 0} → false ≡ true → A
+no-date h = never (sym h)
+
+no-time : {second : Float} → TimeIn 0 0 false second noZone
+no-time = record { hours = omega arith; minutes = omega arith; seconds = no-date; zone-low = omega arith; zone-high = omega arith }
+
+pub after-blank : After 0 blank
+after-blank = record { sane = record { date = omega arith; time = no-time; overs = omega arith }; years = no-date; near = omega arith }
+
+after-failure : After 0 failure
+after-failure = record { sane = after-blank .sane; years = no-date; near = omega arith }
+
+pub clear-kept : (p : Moment) → Kept p (clear p)
+clear-kept p = kept p (clear p) (λ s. record { date = s .date; time = record { hours = s .time .hours; minutes = s .time .minutes; seconds = no-date; zone-low = omega arith; zone-high = omega arith }; overs = s .overs }) (λ _. no-date) (λ n t. t)
+
+pub date-kept : (p : Moment) (y m d : ℕ) → ReadYear y → MonthDay m d → Kept p (setDated (setDate p y m d) true)
+date-kept p y m d r k = kept p (setDated (setDate p y m d) true) (λ s. record { date = k; time = s .time; overs = s .overs }) (λ _ _. r) (λ n t. t)
+
+pub undated-kept : (p : Moment) → Kept p (setDated p false)
+undated-kept p = kept p (setDated p false) (λ s. s) (λ _. no-date) (λ n t. t)
+
+pub over-kept : (p : Moment) → Kept p (setOver p 0)
+over-kept p = kept p (setOver p 0) (λ s. record { date = s .date; time = s .time; overs = omega arith }) (λ y. y) (λ n t. t)
+
+-- flags that no range asks for
+pub utc-kept : (p : Moment) → Kept p (setUtc p)
+utc-kept p = kept p (setUtc p) (λ s. s) (λ y. y) (λ n t. t)
+
+pub local-kept : (p : Moment) → Kept p (setLocal p)
+local-kept p = kept p (setLocal p) (λ s. s) (λ y. y) (λ n t. t)
+
+pub subsec-kept : (p : Moment) (b : Bool) → Kept p (setSubsec p b)
+subsec-kept p b = kept p (setSubsec p b) (λ s. s) (λ y. y) (λ n t. t)
+
+pub raw-kept : (p : Moment) (b : Bool) → Kept p (setRaw p b)
+raw-kept p b = kept p (setRaw p b) (λ s. s) (λ y. y) (λ n t. t)
+
+pub counted-kept : (p : Moment) (b : Bool) → Kept p (setCounted p b)
+counted-kept p b = kept p (setCounted p b) (λ s. s) (λ y. y) (λ n t. t)
 
 -- ---- milliseconds from fields
 read-year : (y m d : ℕ) → Countable y m d → ReadYear y
 read-year y m d c = omega arith
 
-pub midnight-low : (y m d : ℕ) → 9223372008558775808 ≤ midnight y m d
+midnight-low : (y m d : ℕ) → 9223372008558775808 ≤ midnight y m d
 unfolding midnight
 midnight-low y m d = omega (arith, start-is)
 
-pub midnight-high : (y m d : ℕ) → Countable y m d → midnight y m d + 86399999 ≤ last
+midnight-high : (y m d : ℕ) → Countable y m d → midnight y m d + 86399999 ≤ last
 unfolding midnight
 midnight-high y m d c = omega (arith, start-is, days-high y m d c)
 
 -- a time of day, hour 24 too, is less than 25 hours
-pub time-most : (h m : ℕ) (s : Float) → h ≤ 24 → m ≤ 59 → inMinute s ≡ true → timeMs h m s < 90000000
+time-most : (h m : ℕ) (s : Float) → h ≤ 24 → m ≤ 59 → inMinute s ≡ true → timeMs h m s < 90000000
 time-most h m s a b c = omega (arith, minute-ms s c)
 
 -- a sum of fields lies near the millisecond 0, and only a year that was in range still stands
-sum-after : (p : rule.Moment) (y m d : ℕ) → Sane p → MonthDay m d → (p .dated ≡ true → p .year ≡ y) → After 0 (sumOf p y m d)
+sum-after : (p : Moment) (y m d : ℕ) → Sane p → MonthDay m d → (p .dated ≡ true → p .year ≡ y) → After 0 (sumOf p y m d)
 unfolding sumOf withTime
-sum-after p y m d s k e = by-test (λ (q : rule.Moment). After 0 q) (sumTakes y (p .raw)) (withTime (counted p (midnight y m d))) failure inside (λ _. after-failure 0)
+sum-after p y m d s k e = by-test (λ (q : Moment). After 0 q) (sumTakes y (p .raw)) (withTime (counted p (midnight y m d))) failure inside (λ _. after-failure)
   where
+    zoned : (z a t : ℕ) → 541 ≤ z → z ≤ 2339 → 9223372008558775808 ≤ a → a + 86399999 ≤ last → t < 90000000 → Near 0 (a + t + noZone * 60000 - z * 60000)
+    zoned z a t zl zh al ah th = omega arith
+
     inside : sumTakes y (p .raw) ≡ true → After 0 (withTime (counted p (midnight y m d)))
     inside t =
         let c = taken y m d (p .raw) k t in
         let top = midnight-high y m d c in
         let bottom = midnight-low y m d in
-        let ys : p .dated ≡ true → ReadYear (p .year) = λ h. subst (λ (z : ℕ). ReadYear z) (sym (e h)) (read-year y m d c) in
-        by-test (λ (q : rule.Moment). After 0 q) (p .timed) _ (counted p (midnight y m d))
+        let ys : Years p = λ h. subst (λ (z : ℕ). ReadYear z) (sym (e h)) (read-year y m d c) in
+        by-test (λ (q : Moment). After 0 q) (p .timed) _ (counted p (midnight y m d))
         (λ h.
         let day = time-most (p .hour) (p .minute) (p .second) (s .time .hours) (s .time .minutes) (s .time .seconds h) in
-        either (λ (q : rule.Moment). After 0 q) (eqb (p .zone) noZone) _ _
-        (record { sane = s; years = ys; near = omega arith })
-        (record { sane = clear-keeps .sane p s; years = λ h. never (sym h); near = zoned (p .zone) _ _ (s .time .zone-low) (s .time .zone-high) bottom top day }))
+        either (λ (q : Moment). After 0 q) (eqb (p .zone) noZone) _ _ (record { sane = s; years = ys; near = omega arith })
+        (record { sane = clear-kept p .sane s; years = no-date; near = zoned (p .zone) _ _ (s .time .zone-low) (s .time .zone-high) bottom top day }))
         (λ _. record { sane = s; years = ys; near = omega arith })
-      where
-        zoned : (z a t : ℕ) → 541 ≤ z → z ≤ 2339 → 9223372008558775808 ≤ a → a + 86399999 ≤ last → t < 90000000 → Near 0 (a + t + noZone * 60000 - z * 60000)
-        zoned z a t zl zh al ah th = omega arith
 
 -- of a record whose milliseconds do not stand
-fresh : (p : rule.Moment) → Sane p → After 0 (if p .dated then sumOf p (p .year) (p .month) (p .day) else sumOf p (year 2000) 1 1)
-fresh p s = by-test (λ (q : rule.Moment). After 0 q) (p .dated) _ _ (λ _. sum-after p (p .year) (p .month) (p .day) s (s .date) (λ _. refl)) (λ h. sum-after p (year 2000) 1 1 s (omega arith) (λ k. never (sym k ∙ h)))
+fresh : (p : Moment) → Sane p → After 0 (if p .dated then sumOf p (p .year) (p .month) (p .day) else sumOf p (year 2000) 1 1)
+fresh p s = by-test (λ (q : Moment). After 0 q) (p .dated) _ _ (λ _. sum-after p (p .year) (p .month) (p .day) s (s .date) (λ _. refl)) (λ h. sum-after p (year 2000) 1 1 s (omega arith) (λ k. never (sym k ∙ h)))
 
-pub count-fresh : (p : rule.Moment) → Sane p → p .counted ≡ false → After 0 (countMs p)
+pub count-fresh : (p : Moment) → Sane p → p .counted ≡ false → After 0 (countMs p)
 unfolding countMs
-count-fresh p s c = by-test (λ (q : rule.Moment). After 0 q) (p .counted) p _ (λ h. never (sym h ∙ c)) (λ _. fresh p s)
+count-fresh p s c = by-test (λ (q : Moment). After 0 q) (p .counted) p _ (λ h. never (sym h ∙ c)) (λ _. fresh p s)
 
-pub count-keeps : Keeps countMs
+pub count-kept : (p : Moment) → Kept p (countMs p)
 unfolding countMs
-count-keeps = record { sane = λ p s. either (λ (q : rule.Moment). Sane q) (p .counted) p _ s (fresh p s .sane); after = λ n p a. either (λ (q : rule.Moment). After n q) (p .counted) p _ a (after-more 0 n _ (omega arith) (fresh p (a .sane))) }
+count-kept p = either (λ (q : Moment). Kept p q) (p .counted) p _ (kept-same p) (kept-new p _ (fresh p))
 
 -- ---- fields from milliseconds
-civil-countable : (t : ℕ) → t ≤ last → Countable (civil t .year) (civil t .month) (civil t .day)
-civil-countable t h = countable _ _ _ _ (date-of t h)
+civil-countable : (t : ℕ) → inRange t ≡ true → Countable (civil t .year) (civil t .month) (civil t .day)
+civil-countable t h = countable _ _ _ _ (date-of t (leb-true t last (and-right (leb (instant 0) t) _ h)))
 
--- the date that `fillDate` puts where none stands: the milliseconds' own, or 2000-01-01
-filled-date : (p : rule.Moment) → inRange (p .ms) ≡ true → Keeps (λ q. setDated (setDate q (civil (p .ms) .year) (civil (p .ms) .month) (civil (p .ms) .day)) true)
-filled-date p h =
-    let c = civil-countable (p .ms) (leb-true (p .ms) last (and-right (leb (instant 0) (p .ms)) _ h)) in
-    date-keeps _ _ _ (read-year _ _ _ c) (c .fields)
-
-stand-in : Keeps (λ q. setDated (setDate q (year 2000) 1 1) true)
-stand-in = date-keeps (year 2000) 1 1 (omega arith) (omega arith)
-
-pub fill-date-keeps : Keeps fillDate
-unfolding fillDate
-fill-date-keeps =
-    record {
-      sane = λ p s. either (λ (q : rule.Moment). Sane q) (p .dated) p _ s
-          (either (λ (q : rule.Moment). Sane q) (p .counted) _ _ (by-test (λ (q : rule.Moment). Sane q) (inRange (p .ms)) _ failure (λ h. filled-date p h .sane p s) (λ _. sane-blank)) (stand-in .sane p s));
-      after = λ n p a. either (λ (q : rule.Moment). After n q) (p .dated) p _ a
-          (either (λ (q : rule.Moment). After n q) (p .counted) _ _ (by-test (λ (q : rule.Moment). After n q) (inRange (p .ms)) _ failure (λ h. filled-date p h .after n p a) (λ _. after-failure n)) (stand-in .after n p a));
-    }
+pub fill-date-kept : (p : Moment) → Kept p (fillDate p)
+fill-date-kept p =
+    date-cases (λ (q : Moment). Kept p q) p (λ _. kept-same p) (λ h. let c = civil-countable (p .ms) h in date-kept p _ _ _ (read-year _ _ _ c) (c .fields)) (λ _ _. kept-new p failure (λ _. after-failure)) (λ _. date-kept p (year 2000) 1 1 (omega arith) (omega arith))
 
 -- t milliseconds after midnight
-pub time-keeps : (t : ℕ) → t < 86400000 → Keeps (λ p. onTime p t)
-time-keeps t h = record { sane = λ p s. timed p s; after = λ n p a. record { sane = timed p (a .sane); years = a .years; near = a .near } }
-  where
-    timed : (p : rule.Moment) → Sane p → Sane (onTime p t)
-    timed p s = record { date = s .date; time = record { hours = omega arith; minutes = omega arith; seconds = λ _. filled-minute (t % 60000) (omega arith); zone-low = s .time .zone-low; zone-high = s .time .zone-high }; overs = s .overs }
+time-kept : (p : Moment) (t : ℕ) → t < 86400000 → Kept p (onTime p t)
+time-kept p t h = kept p (onTime p t) (λ s. record { date = s .date; time = record { hours = omega arith; minutes = omega arith; seconds = λ _. filled-minute (t % 60000) (omega arith); zone-low = s .time .zone-low; zone-high = s .time .zone-high }; overs = s .overs }) (λ y. y) (λ n a. a)
 
-pub fill-time-keeps : Keeps fillTime
-unfolding fillTime
-fill-time-keeps =
-    record {
-      sane = λ p s. either (λ (q : rule.Moment). Sane q) (p .timed) p _ s (time-keeps _ (time-high ((countMs p) .ms)) .sane (countMs p) (count-keeps .sane p s));
-      after = λ n p a. either (λ (q : rule.Moment). After n q) (p .timed) p _ a (time-keeps _ (time-high ((countMs p) .ms)) .after n (countMs p) (count-keeps .after n p a));
-    }
-
-pub fill-keeps : Keeps fill
-unfolding fill
-fill-keeps = both fillDate fillTime fill-date-keeps fill-time-keeps
+pub fill-time-kept : (p : Moment) → Kept p (fillTime p)
+fill-time-kept p = time-cases (λ (q : Moment). Kept p q) p (λ _. kept-same p) (kept-then p (countMs p) _ (count-kept p) (time-kept (countMs p) _ (time-high ((countMs p) .ms))))
 
 -- ---- the month's end
-pub end-keeps : Keeps pastEnd
+pub end-kept : (p : Moment) → Kept p (pastEnd p)
 unfolding pastEnd
-end-keeps = record { sane = λ p s. ended p s; after = λ n p a. record { sane = ended p (a .sane); years = a .years; near = a .near } }
-  where
-    ended : (p : rule.Moment) → Sane p → Sane (pastEnd p)
-    ended p s = record { date = s .date; time = s .time; overs = omega (arith, month-low (p .year) (p .month) (s .date .month-low) (s .date .month-high)) }
+end-kept p = kept p (pastEnd p) (λ s. record { date = s .date; time = s .time; overs = omega (arith, month-low (p .year) (p .month) (s .date .month-low) (s .date .month-high)) }) (λ y. y) (λ n t. t)
 
 -- ---- what is read
 pub after-timed : (t : Time) → TimeRead t → After 0 (timed t)
-after-timed t b = either (λ (q : rule.Moment). After 0 q) (t .utc) _ _ (record { sane = s; years = λ h. never (sym h); near = omega arith }) (record { sane = s; years = λ h. never (sym h); near = omega arith })
+after-timed t b = either (λ (q : Moment). After 0 q) (t .utc) _ _ (record { sane = s; years = no-date; near = omega arith }) (record { sane = s; years = no-date; near = omega arith })
   where
     s : Sane (setZone (setTimed (setTime blank (t .hour) (t .minute) (t .second)) true) (t .zone))
     s = record { date = omega arith; time = b; overs = omega arith }
 
-pub now-keeps : (clock : ℕ) → clock ≤ 253402300799999 → Keeps (now clock)
-now-keeps clock h = record { sane = λ p s. s; after = λ n p a. record { sane = a .sane; years = a .years; near = omega arith } }
+pub now-kept : (p : Moment) (clock : ℕ) → clock ≤ 253402300799999 → Kept p (now clock p)
+now-kept p clock h = kept p (now clock p) (λ s. s) (λ y. y) (λ n t. omega arith)
 
 pub after-raw : (n : Float) → After 0 (rawNumber n)
 after-raw n =
-    by-test (λ (q : rule.Moment). After 0 q) (isJulian n) _ _ (λ h. let t = julian-ms n h in record { sane = s; years = λ h. never (sym h); near = omega arith })
-    (λ _. record { sane = s; years = λ h. never (sym h); near = omega arith })
+    by-test (λ (q : Moment). After 0 q) (isJulian n) _ _ (λ h. let t = julian-ms n h in record { sane = s; years = no-date; near = omega arith })
+    (λ _. record { sane = s; years = no-date; near = omega arith })
   where
     s : Sane (setRaw (setTime blank 0 0 n) true)
     s = record { date = omega arith; time = no-time; overs = omega arith }
 
--- ---- a month shift: the year may lie out of its range
-pub sane-shift : (p : rule.Moment) (z : ℤ) (k : ℕ) → Sane p → Sane (shift p z k)
+-- ---- the modifiers
+pub moved-after : (n : ℕ) (p : Moment) (b : Bool) (k : ℕ) → k ≤ stepMost → After n p → After (n + 1) (clear (moved p (signed b k) 1))
+moved-after n p b k h a = record { sane = clear-kept p .sane (a .sane); years = no-date; near = near-moved n (p .ms) k b h (a .near) }
+
+pub at-kept : (p : Moment) (r : Float) → nearestMs r ≤ 464269060800000 → Kept p (atMs p r)
+at-kept p r h = kept p (atMs p r) (λ s. clear-kept p .sane s) (λ _. no-date) (λ n t. omega arith)
+
+-- what `dayStart` makes of a date
+abbrev pub atStart : Moment → Moment
+atStart p = setOver (setZone (setCounted (setRaw (setTimed (setTime p 0 0 (number 0)) true) false) false) noZone) 0
+
+no-seconds : inMinute (number 0) ≡ true
+unfolding ofInt round le
+no-seconds = refl
+
+pub start-kept : (p : Moment) → Kept p (atStart p)
+start-kept p = kept p (atStart p) (λ s. record { date = s .date; time = record { hours = omega arith; minutes = omega arith; seconds = λ _. no-seconds; zone-low = omega arith; zone-high = omega arith }; overs = omega arith }) (λ y. y) (λ n t. t)
+
+pub month-kept : (p : Moment) → Kept p (firstOfMonth p)
+month-kept p = kept p (firstOfMonth p) (λ s. record { date = record { month-low = s .date .month-low; month-high = s .date .month-high; day-low = omega arith; day-high = omega arith }; time = s .time; overs = s .overs }) (λ y. y) (λ n t. t)
+
+pub year-kept : (p : Moment) → Kept p (firstOfYear p)
+year-kept p = kept p (firstOfYear p) (λ s. record { date = omega arith; time = s .time; overs = s .overs }) (λ y. y) (λ n t. t)
+
+-- a month shift, after which the year may lie out of range
+pub sane-shift : (p : Moment) (z : ℤ) (k : ℕ) → Sane p → Sane (shift p z k)
 unfolding shift
 sane-shift p z k s = let m = move (p .year * 12 + (p .month - 1)) z k in record { date = record { month-low = omega arith; month-high = omega arith; day-low = s .date .day-low; day-high = s .date .day-high }; time = s .time; overs = s .overs }
 
--- ---- the modifiers' setters
-pub local-keeps : Keeps setLocal
-local-keeps = record { sane = λ p s. s; after = λ n p a. record { sane = a .sane; years = a .years; near = a .near } }
-
-pub raw-keeps : (b : Bool) → Keeps (λ p. setRaw p b)
-raw-keeps b = record { sane = λ p s. s; after = λ n p a. record { sane = a .sane; years = a .years; near = a .near } }
-
-pub uncounted-keeps : Keeps (λ p. setCounted p false)
-uncounted-keeps = record { sane = λ p s. s; after = λ n p a. record { sane = a .sane; years = a .years; near = a .near } }
-
-pub undated-keeps : Keeps (λ p. setDated p false)
-undated-keeps = record { sane = λ p s. s; after = λ n p a. record { sane = a .sane; years = λ h. never (sym h); near = a .near } }
-
-pub over-keeps : Keeps (λ p. setOver p 0)
-over-keeps = record { sane = λ p s. none p s; after = λ n p a. record { sane = none p (a .sane); years = a .years; near = a .near } }
-  where
-    none : (p : rule.Moment) → Sane p → Sane (setOver p 0)
-    none p s = record { date = s .date; time = s .time; overs = omega arith }
-
--- the milliseconds moved
-pub near-moved : (n t k : ℕ) (b : Bool) → k ≤ stepMost → Near n t → Near (n + 1) (move t (signed b k) 1)
-near-moved n t k false h a = omega arith
-near-moved n t k true h a = rw (move-back t k 1) (omega arith)
-
-pub moved-after : (n : ℕ) (p : rule.Moment) (b : Bool) (k : ℕ) → k ≤ stepMost → After n p → After (n + 1) (clear (moved p (signed b k) 1))
-moved-after n p b k h a = record { sane = clear-keeps .sane p (a .sane); years = λ e. never (sym e); near = near-moved n (p .ms) k b h (a .near) }
-
-pub step-moved : (p r : Moment) (b : Bool) (k : ℕ) → Sane (held p) → k ≤ stepMost → held r ≡ clear (moved (held p) (signed b k) 1) → Moved p r (clear (moved (held p) (signed b k) 1))
-step-moved p r b k s h e = record { is = e; sane = subst (λ (x : rule.Moment). Sane x) (sym e) (clear-keeps .sane (held p) s); after = λ n a. subst (λ (x : rule.Moment). After (n + 1) x) (sym e) (moved-after n (held p) b k h a) }
-
--- ---- `auto`, `unixepoch`
-pub at-keeps : (r : Float) → nearestMs r ≤ 464269060800000 → Keeps (λ p. atMs p r)
-at-keeps r h = record { sane = λ p s. clear-keeps .sane p s; after = λ n p a. record { sane = clear-keeps .sane p (a .sane); years = λ e. never (sym e); near = omega arith } }
-
--- ---- `start of`
--- what `dayStart` makes of a date
-abbrev pub atStart : rule.Moment → rule.Moment
-atStart p = setOver (setZone (setCounted (setRaw (setTimed (setTime p 0 0 (number 0)) true) false) false) noZone) 0
-
-pub start-keeps : Keeps atStart
-start-keeps = record { sane = λ p s. started p s; after = λ n p a. record { sane = started p (a .sane); years = a .years; near = a .near } }
-  where
-    midnight-time : TimeIn 0 0 true (number 0) noZone
-    midnight-time = record { hours = omega arith; minutes = omega arith; seconds = λ _. no-seconds; zone-low = omega arith; zone-high = omega arith }
-
-    started : (p : rule.Moment) → Sane p → Sane (atStart p)
-    started p s = record { date = s .date; time = midnight-time; overs = omega arith }
-
-pub month-keeps : Keeps firstOfMonth
-month-keeps = record { sane = λ p s. first p s; after = λ n p a. record { sane = first p (a .sane); years = a .years; near = a .near } }
-  where
-    first : (p : rule.Moment) → Sane p → Sane (firstOfMonth p)
-    first p s = record { date = record { month-low = s .date .month-low; month-high = s .date .month-high; day-low = omega arith; day-high = omega arith }; time = s .time; overs = s .overs }
-
-pub year-keeps : Keeps firstOfYear
-year-keeps = record { sane = λ p s. first p s; after = λ n p a. record { sane = first p (a .sane); years = a .years; near = a .near } }
-  where
-    first : (p : rule.Moment) → Sane p → Sane (firstOfYear p)
-    first p s = record { date = omega arith; time = s .time; overs = s .overs }
-
--- ---- years, where a month shift reckons with them
-count-year : (p : rule.Moment) → ReadYear (p .year) → ReadYear ((countMs p) .year)
-count-year p h = count-cases (λ (q : rule.Moment). ReadYear (q .year)) p (λ _. h) (omega arith) (λ _. h) (λ _. h)
-
-pub fill-year : (n : ℕ) (p : rule.Moment) → After n p → ReadYear ((fill p) .year)
-unfolding fill fillTime fillDate
-fill-year n p a = either (λ (q : rule.Moment). ReadYear (q .year)) ((fillDate p) .timed) (fillDate p) (onTime (countMs (fillDate p)) (timeOfDay ((countMs (fillDate p)) .ms))) date (count-year (fillDate p) date)
+-- before it the year lies in range
+pub fill-year : (n : ℕ) (p : Moment) → After n p → ReadYear ((fill p) .year)
+unfolding fill
+fill-year n p a = time-cases (λ (q : Moment). ReadYear (q .year)) (fillDate p) (λ _. date) (count-cases (λ (q : Moment). ReadYear (q .year)) (fillDate p) (λ _. date) (omega arith) (λ _. date) (λ _. date))
   where
     date : ReadYear ((fillDate p) .year)
-    date =
-        by-test (λ (q : rule.Moment). ReadYear (q .year)) (p .dated) p (if p .counted then (if inRange (p .ms) then onDate p (civil (p .ms)) else failure) else setDated (setDate p (year 2000) 1 1) true) (λ h. a .years h)
-        (λ _. either (λ (q : rule.Moment). ReadYear (q .year)) (p .counted) (if inRange (p .ms) then onDate p (civil (p .ms)) else failure) (setDated (setDate p (year 2000) 1 1) true)
-        (by-test (λ (q : rule.Moment). ReadYear (q .year)) (inRange (p .ms)) (onDate p (civil (p .ms))) failure (λ h. filled-date p h .after n p a .years refl) (λ _. omega arith)) (omega arith))
+    date = date-cases (λ (q : Moment). ReadYear (q .year)) p (λ h. a .years h) (λ h. read-year _ _ _ (civil-countable (p .ms) h)) (λ _ _. omega arith) (λ _. omega arith)
+
+-- ---- a record in range, filled: all that is written of it stands
+fill-timed : (p : Moment) → (fill p) .timed ≡ true
+unfolding fill
+fill-timed p = time-cases (λ (q : Moment). q .timed ≡ true) (fillDate p) (λ h. h) refl
+
+fill-ms : (p : Moment) → p .counted ≡ true → inRange (p .ms) ≡ true → (fill p) .ms ≡ p .ms
+unfolding fill
+fill-ms p c r = time-cases (λ (q : Moment). q .ms ≡ p .ms) (fillDate p) (λ _. date .0) (ap (λ (q : Moment). q .ms) (already (fillDate p) (date .1)) ∙ date .0)
+  where
+    date : ((fillDate p) .ms ≡ p .ms) × ((fillDate p) .counted ≡ true)
+    date = date-cases (λ (q : Moment). (q .ms ≡ p .ms) × (q .counted ≡ true)) p (λ _. (refl, c)) (λ _. (refl, c)) (λ _ h. never (sym r ∙ h)) (λ h. never (sym c ∙ h))
+
+pub fill-full : (n : ℕ) (p : Moment) → After n p → Ranged p → Full (fill p)
+unfolding fill
+fill-full n p a r =
+    let i = in-range (p .ms) (r .ranged .from) (r .ranged .to) in
+    record {
+      sane = kept-then p (fillDate p) (fill p) (fill-date-kept p) (fill-time-kept (fillDate p)) .sane (a .sane);
+      years = fill-year n p a;
+      timed = fill-timed p;
+      ranged = subst (λ (t : ℕ). InRange t) (sym (fill-ms p (r .stands) i)) (r .ranged);
+    }
+
+pub renewed-full : (n : ℕ) (m : List ℕ) (p : Moment) → After n p → Ranged p → Full (renewed m p)
+unfolding renewed
+renewed-full n (b ∷ m) p a r = fill-full n p a r
+renewed-full n [] p a r = either (λ (q : Moment). Full (fill q)) (p .dated && ltb 28 (p .day)) (setDated p false) p (fill-full n (setDated p false) (undated-kept p .after n a) (record { ranged = r .ranged; stands = r .stands })) (fill-full n p a r)

@@ -1,17 +1,33 @@
--- One step after another, by what their contracts say. Assumes nothing.
-use mathlib.Core.Bool.{false}
-use mathlib.Core.Path.{_≡_, sym, ap, _∙_, subst}
-use Prim.Native.Nat.{ℕ, _+_}
+-- From the rules' steps to the contracts of the code's, one and one after another. Assumes nothing.
+use mathlib.Core.Bool.{Bool, false}
+use mathlib.Core.Path.{_≡_, refl, sym, ap, _∙_, subst}
+use Prim.Native.Nat.{ℕ, _+_, _≤_}
 use native.Mathlib.Omega.{arith}
 use Rattle.rules.specs.Basics.{Read, got, refuse}
 use Rattle.rules.specs.Moments as rule
+use Rattle.rules.specs.Modifiers.{signed}
 use Rattle.rules.specs.declared.Refusal.{Refusal}
+use Rattle.real.specs.StepMost.{stepMost}
 use Rattle.moment.specs.declared.Moment.{Moment}
 use Rattle.moment.specs.declared.Step.the-variants.{Next, Refused}
 use Rattle.moment.specs.Held.{held}
 use Rattle.moment.specs.Ranges.{Sane, After, Movable, Filled, Moved, Answered}
-use Rattle.moment.proofs.Bounds.{after-more, count-fresh}
+use Rattle.moment.proofs.Bounds.{after-more, Kept, kept-same, clear-kept, count-fresh, moved-after}
 
+-- ---- the rules' step, and the code's that hands the same record back
+pub filled : (p : Moment) {r : Moment} {q : rule.Moment} → Kept (held p) q → Sane (held p) → held r ≡ q → Filled p r q
+filled p k s e = record { is = e; sane = subst (λ (x : rule.Moment). Sane x) (sym e) (k .sane s); after = λ n a. subst (λ (x : rule.Moment). After n x) (sym e) (k .after n a) }
+
+pub same : (p : Moment) → Sane (held p) → Filled p p (held p)
+same p s = filled p (kept-same (held p)) s refl
+
+pub made : {r : Moment} {q : rule.Moment} → After 0 q → held r ≡ q → (held r ≡ q) × After 0 (held r)
+made a e = (e, subst (λ (x : rule.Moment). After 0 x) (sym e) a)
+
+pub step-moved : (p : Moment) {r : Moment} (b : Bool) (k : ℕ) → Sane (held p) → k ≤ stepMost → held r ≡ rule.clear (rule.moved (held p) (signed b k) 1) → Moved p r (rule.clear (rule.moved (held p) (signed b k) 1))
+step-moved p b k s h e = record { is = e; sane = subst (λ (x : rule.Moment). Sane x) (sym e) (clear-kept (held p) .sane s); after = λ n a. subst (λ (x : rule.Moment). After (n + 1) x) (sym e) (moved-after n (held p) b k h a) }
+
+-- ---- one after another
 module _ {p q r : Moment} {x : rule.Moment} (g : rule.Moment → rule.Moment) where
   pub then-fill : Filled p q x → Filled q r (g (held q)) → Filled p r (g x)
   then-fill f h = record { is = h .is ∙ ap g (f .is); sane = h .sane; after = λ n a. h .after n (f .after n a) }

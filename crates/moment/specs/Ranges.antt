@@ -65,6 +65,13 @@ pub record Ranged (p : rule.Moment) : Type 0 where
   pub ranged : InRange (p .ms)
   pub stands : p .counted ≡ true
 
+-- and is filled: all that is written of it stands
+pub record Full (p : rule.Moment) : Type 0 where
+  pub sane : Sane p
+  pub years : ReadYear (p .year)
+  pub timed : p .timed ≡ true
+  pub ranged : InRange (p .ms)
+
 -- ---- what a step hands back
 -- r for p by a step that fills, where the rules say q
 pub record Filled (p r : Moment) (q : rule.Moment) : Type 0 where

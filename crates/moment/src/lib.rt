@@ -149,7 +149,7 @@ impl Moment {
         self
     }
 
-    pub fn known_utc(mut self) -> Moment
+    fn known_utc(mut self) -> Moment
         requires { ⌜ Sane (held self) ⌝ }
         ensures { λ r. ⌜ Filled self r (rule.setUtc (held self)) ⌝ }
     {

@@ -15,7 +15,7 @@ ghost use Rattle.rules.specs.Modifiers.{signed, nearestMs, fractionMs, daysOn};
 ghost use Rattle.real.specs.StepMost.{stepMost};
 ghost use Rattle.moment.specs.Held.{held};
 ghost use Rattle.moment.specs.Ranges.{ReadYear, Sane, Movable, Filled, Moved, Answered, Ranged, Lands};
-ghost use Rattle.moment.specs.Steps.{byLength, byMonths, byTime, firstOfMonth, firstOfYear};
+ghost use Rattle.moment.specs.Steps.{lengthOn, monthsOn, timeOn, firstOfMonth, firstOfYear};
 use crate::Moment;
 use crate::Step;
 use crate::signs;
@@ -47,7 +47,7 @@ fn days_on(n: u64, t: u64) -> u64
 impl Moment {
     // ---- setters
 
-    pub fn known_local(mut self) -> Moment
+    fn known_local(mut self) -> Moment
         requires { ⌜ Sane (held self) ⌝ }
         ensures { λ r. ⌜ Filled self r (rule.setLocal (held self)) ⌝ }
     {
@@ -257,7 +257,7 @@ impl Moment {
     // A number of units of a fixed length, in milliseconds.
     pub fn by_length(self, ms: i64) -> Moment
         requires { ⌜ Movable (held self) × (natAbs ms ≤ stepMost) ⌝ }
-        ensures { λ r. ⌜ Moved self r (byLength ms (held self)) ⌝ }
+        ensures { λ r. ⌜ Moved self r (lengthOn ms (held self)) ⌝ }
     {
         let by = signs::way_of(ms);
         self.count_ms().moved(by.minus, by.size).not_over()
@@ -265,7 +265,7 @@ impl Moment {
 
     pub fn by_time(self, minus: bool, ms: u64) -> Moment
         requires { ⌜ Movable (held self) × (ms < 90000000) ⌝ }
-        ensures { λ r. ⌜ Moved self r (byTime minus ms (held self)) ⌝ }
+        ensures { λ r. ⌜ Moved self r (timeOn minus ms (held self)) ⌝ }
     {
         self.count_ms().moved(minus, ms)
     }
@@ -284,7 +284,7 @@ impl Moment {
     // n units of k months: the whole part shifts months, and of the fraction a whole unit counts as so many days.
     pub fn by_months(self, n: f64, k: u32, days: f64) -> Moment
         requires { ⌜ Movable (held self) × (natAbs (cut n) * k ≤ 176545) × (natAbs (fractionMs days n) ≤ stepMost) ⌝ }
-        ensures { λ r. ⌜ Moved self r (byMonths k days n (held self)) ⌝ }
+        ensures { λ r. ⌜ Moved self r (monthsOn k days n (held self)) ⌝ }
     {
         let p = self.fill()
             .shift(real::cut(n) * k as i64)

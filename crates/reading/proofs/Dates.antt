@@ -15,10 +15,10 @@ use Rattle.rules.specs.declared.Time.{Time}
 use Rattle.moment.specs.Ranges.{ReadYear, Sane, After}
 use Rattle.moment.proofs.Branches.{either}
 use Rattle.moment.proofs.Bounds.{Keeps, count-keeps}
-use Rattle.text.specs.Places.{begins, gap}
-use Rattle.text.proofs.Numbers.{digits-short}
+use Rattle.text.specs.Places.{gap}
+use Rattle.text.proofs.Digits.{digits-short}
 use Rattle.reading.specs.Readers.{yearMonthDay, heldYear}
-use Rattle.reading.proofs.Steps.{or-other, then-then, char-then, digits-then}
+use Rattle.reading.proofs.Steps.{begins, or-other, then-then, char-then, digits-then}
 
 -- ---- YYYY-MM-DD
 module _ (low months days : ℕ) (l : List ℕ) where

@@ -7,6 +7,7 @@ use native.Mathlib.Omega.{arith}
 use lib.Ieee.{Float, ofInt, round, le, lt}
 use lib.ListN.{length, drop}
 use lib.Seq.{drop-drop}
+use Rattle.reading.proofs.Steps.{begins}
 use Rattle.rules.specs.Basics.{if_then_else_, is, isDigit, Read, got, other, _>>=_, digits}
 use Rattle.rules.specs.Floats.{number, _⊕_}
 use Rattle.rules.specs.Decimal.{run}
@@ -14,7 +15,6 @@ use Rattle.rules.specs.Reading.{fractionOf, fractionIn, fraction, secondsIn, se
 use Rattle.real.specs.InMinute.{inMinute}
 use Rattle.real.proofs.Run.{Digits, run-digits}
 use Rattle.real.proofs.Seconds.{fraction-none, read-minute}
-use Rattle.text.specs.Places.{begins}
 
 -- the digits and what follows them are all
 pub run-all : (l : List ℕ) → length (run l .0) + length (run l .1) ≡ length l

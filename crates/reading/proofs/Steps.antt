@@ -7,11 +7,12 @@ use mathlib.Core.List.{List, [], _∷_}
 use native.Mathlib.Decide.{decLe}
 use native.Mathlib.Numerals.{add-one}
 use native.Mathlib.Omega.{arith}
-use lib.Dec.{leb}
+use borrow.Author.Tests.{le-ltb, lt-ltb}
+use lib.Dec.{leb, ltb, eqb}
 use lib.ListN.{length, getD, drop, drop-of-length-le}
 use lib.Seq.{drop-cons, drop-drop}
 use Rattle.rules.specs.Basics.{if_then_else_, is, isDigit, Read, got, other, refuse, _>>=_, _or_, onlyIf, ended, byte, digitsOn, digits}
-use Rattle.text.specs.Places.{begins}
+use Rattle.text.specs.Places.{stands}
 
 -- nothing after the last form
 pub or-other : {A : Type 0} (r : Read A) → (r or other) ≡ r
@@ -30,6 +31,20 @@ pub read-as : {R A : Type 0} (of : R → Read A) {r x : R} {d : Read A} → of r
 read-as of h e = sym h ∙ ap of e
 
 -- ---- a character
+-- whether the byte b stands at the front
+abbrev pub begins : ℕ → List ℕ → Bool
+begins b [] = false
+begins b (x ∷ l) = eqb b x
+
+-- and at a place
+pub stands-begins : (b : ℕ) (s : List ℕ) (at : ℕ) → stands b s at ≡ begins b (drop at s)
+unfolding stands
+stands-begins b s at = go (decLe (length s) at)
+  where
+    go : Dec (length s ≤ at) → (ltb at (length s) && eqb b (getD s at 0)) ≡ begins b (drop at s)
+    go (yes k) = rw (drop-of-length-le s k, le-ltb at (length s) k)
+    go (no k) = let h : at < length s = omega (arith, k) in rw (drop-cons s at 0 h, lt-ltb at (length s) h)
+
 module _ (c : Char) where
   front : (l : List ℕ) → byte c l ≡ onlyIf (begins (code c) l) (drop 1 l)
   front [] = refl

@@ -10,7 +10,7 @@ use lib.ListN.{length, drop, length-drop}
 use Rattle.rules.specs.Basics.{Read, got, other, refuse, _>>=_, _or_, onlyIf, ended, byte, digits, skip}
 use Rattle.rules.specs.Moments.{noZone}
 use Rattle.rules.specs.Reading.{space, hoursMinutes, zoneIn}
-use Rattle.text.proofs.Numbers.{digits-short}
+use Rattle.text.proofs.Digits.{digits-short}
 use Rattle.reading.specs.Readers.{hourMinute, eastBy, westBy}
 use Rattle.reading.proofs.Steps.{or-other, then-then, char-then, digits-then}
 

@@ -13,7 +13,8 @@ use lib.Ieee.Positive.{num, den, den-pos}
 use Rattle.rules.specs.Floats.{number, within, below, decimals}
 use Rattle.real.specs.PartsOf.{PartsOf}
 use Rattle.real.proofs.Pack.{near-lt}
-use Rattle.real.proofs.Within.{span-within, within-below}
+use Rattle.real.proofs.Within.{Within}
+use Rattle.real.proofs.Tests.{number-plain, span-within, within-below}
 
 pub decimals-of : (k : ℕ) (x : Float) (m s : ℕ) → PartsOf x m s → decimals k x ≡ closest (m * 10 ^ k) (2 ^ s)
 decimals-of k x m s p =
@@ -56,15 +57,18 @@ rest-le m p P =
     le-trans (nearest-le (B / p) (compare (B % p * 2) p)) (div-lt-iff-lt-mul P .1 (lt-of-lt-of-le (mul-lt-mul-of-pos-right (mod-lt m P) (lit≤ tt)) (le-of-eq (mul-comm p (10 ^ 9)))))
 
 -- ---- from a million up to 2 ^ 23
+nine : (x : Float) → within (number 1000000) x (number 8388608) ≡ true → Within x (number 8388608) × (num (number 1000000) * den x ≤ num x * den (number 1000000))
+nine x h = span-within x (number-plain 1000000 (lit≤ tt)) (number-plain 8388608 (lit≤ tt)) h
+
 pub nine-below : (x : Float) → within (number 1000000) x (number 8388608) ≡ true → below x (number 9007199254740992) ≡ true
 unfolding ofInt round
-nine-below x h = within-below x (number 8388608) (number 9007199254740992) (span-within (number 1000000) x (number 8388608) tt tt h .0) tt (lit≤ tt)
+nine-below x h = within-below (nine x h .0) (number-plain 9007199254740992 (lit≤ tt)) (lit≤ tt)
 
 -- the last place is 2 ^ -33 or more
 pub nine-shift : (x : Float) (m s : ℕ) → within (number 1000000) x (number 8388608) ≡ true → PartsOf x m s → s ≤ 33
 unfolding ofInt round
 nine-shift x m s h p =
-    let l : 1000000 * den x ≤ num x * 1 = span-within (number 1000000) x (number 8388608) tt tt h .1 in
+    let l : 1000000 * den x ≤ num x * 1 = nine x h .1 in
     let b : 1000000 * 2 ^ s ≤ m = le-of-mul-le-mul-right (le-trans (le-of-eq (mul-right-comm 1000000 (2 ^ s) (den x))) (le-trans (mul-le-mul-right (2 ^ s) (le-trans l (le-of-eq (mul-one (num x))))) (le-of-eq (p .is)))) (den-pos x) in
     le-of-suc-le-suc (lt-of-not-le (λ (g : 34 ≤ s). not-le-of-lt (lt-of-le-of-lt b (p .small)) (le-trans (lit≤ tt) (mul-le-mul-left 1000000 (pow-mono g)))))
 
@@ -72,6 +76,6 @@ nine-shift x m s h p =
 pub nine-whole : (x : Float) (m s : ℕ) → within (number 1000000) x (number 8388608) ≡ true → PartsOf x m s → m / 2 ^ s ≤ 2 ^ 23
 unfolding ofInt round
 nine-whole x m s h p =
-    let l : num x * 1 ≤ 2 ^ 23 * den x = span-within (number 1000000) x (number 8388608) tt tt h .0 .le in
+    let l : num x * 1 ≤ 2 ^ 23 * den x = nine x h .0 .le in
     let b : m ≤ 2 ^ 23 * 2 ^ s = le-of-mul-le-mul-right (le-trans (le-of-eq (sym (p .is))) (le-trans (mul-le-mul-right (2 ^ s) (le-trans (le-of-eq (sym (mul-one (num x)))) l)) (le-of-eq (mul-right-comm (2 ^ 23) (den x) (2 ^ s))))) (den-pos x) in
     le-of-suc-le-suc (div-lt-iff-lt-mul (pow-pos s) .1 (lt-of-le-of-lt b (mul-lt-mul-of-pos-right {n = 2 ^ 23 + 1} (lit≤ tt) (pow-pos s))))

@@ -23,7 +23,8 @@ use Rattle.rules.specs.Reading.{digitSum, scale, fractionOf}
 use Rattle.real.proofs.Near.{Half, scale-half, closest-half, add-at, mul-at, div-at, number-val, Rounded, rounded}
 use Rattle.real.proofs.Millis.{to-units, Nearly}
 use Rattle.real.proofs.Run.{Digits}
-use Rattle.real.proofs.Within.{Within, plain, plain-val, within-self, not-above}
+use Rattle.real.proofs.Within.{Plain, is-plain, plain-val, Within, within-self}
+use Rattle.real.proofs.Tests.{not-above}
 
 -- ---- in units, `round` moves a number by at most its 2 ^ -53rd part
 half-of : (L a g x : ℕ) → 0 < L → a * L * 2 ≤ g * L * 2 + L * x → a * 2 ≤ g * 2 + x
@@ -54,7 +55,7 @@ reach z p h k = omega arith
 last : (z p : ℕ) → p ≤ z → 0 < p → z - p + p ≡ suc (p - 1 + (z - p))
 last z p h k = omega arith
 
-pub unit-rel : (a : ℕ) → (grid binary64 a (2 ^ 1074) * 2 ^ 53 ≤ a * 2 ^ 53 + a) × (a * 2 ^ 53 ≤ grid binary64 a (2 ^ 1074) * 2 ^ 53 + a)
+unit-rel : (a : ℕ) → (grid binary64 a (2 ^ 1074) * 2 ^ 53 ≤ a * 2 ^ 53 + a) × (a * 2 ^ 53 ≤ grid binary64 a (2 ^ 1074) * 2 ^ 53 + a)
 unit-rel a = go (ltb (size a) 53) (ltb→lt (size a) 53) (nltb→le (size a) 53)
   where
     exact : (a g : ℕ) → g ≡ a → (g * 2 ^ 53 ≤ a * 2 ^ 53 + a) × (a * 2 ^ 53 ≤ g * 2 ^ 53 + a)
@@ -70,7 +71,7 @@ unit-rel a = go (ltb (size a) 53) (ltb→lt (size a) 53) (nltb→le (size a) 53)
         scale-half a (grid binary64 a (2 ^ 1074)) (2 ^ k) (2 ^ 53) a (unit-half binary64 a) u
 
 -- ---- g is W within e parts of 2 ^ 53
-abbrev pub Close : ℕ → ℕ → ℕ → Type 0
+abbrev Close : ℕ → ℕ → ℕ → Type 0
 Close e W g = (g * 2 ^ 53 ≤ W * 2 ^ 53 + e * W) × (W * 2 ^ 53 ≤ g * 2 ^ 53 + e * W)
 
 close-le : (e W g : ℕ) → e ≤ 2 ^ 53 → Close e W g → g ≤ W * 2
@@ -104,10 +105,10 @@ grid-le : (a g : ℕ) → g * 2 ^ 53 ≤ a * 2 ^ 53 + a → g ≤ a * 2
 grid-le a g h = omega arith
 
 -- ---- a float that is near the whole number v
-pub record At (x : Float) (v e : ℕ) : Type 0 where
-  pub units : ℕ
-  pub is : HasValue x false units (2 ^ 1074)
-  pub close : Close e (v * 2 ^ 1074) units
+record At (x : Float) (v e : ℕ) : Type 0 where
+  units : ℕ
+  is : HasValue x false units (2 ^ 1074)
+  close : Close e (v * 2 ^ 1074) units
 
 -- a sum or a product in units, rounded: it does not overflow
 round-at : (a v e : ℕ) → e ≤ 2 ^ 53 → v * 4 < 2 ^ 1024 → Close e (v * 2 ^ 1074) a → At (round binary64 false a (2 ^ 1074)) v (e + 2)
@@ -233,13 +234,10 @@ less : (gm gs X Y : ℕ) → 0 < gs → X ≤ Y → gm * 2 ^ 23 ≤ X * 2 ^ 23 +
 less gm gs X Y p h a b = omega arith
 
 scaled-up : (L x y z : ℕ) → x * 1000 * 2 ^ 23 ≤ y * 2 ^ 23 + 4000 * z → x * L * 1000 * 2 ^ 23 ≤ y * L * 2 ^ 23 + 4000 * (z * L)
-scaled-up L x y z h =
-    le-trans (le-of-eq (simp (mul-assoc, mul-comm, mul-left-comm))) (le-trans (mul-le-mul-right L h) (le-of-eq (add-mul (y * 2 ^ 23) (4000 * z) L ∙ ap (λ (u : ℕ). u + 4000 * z * L) (mul-right-comm y (2 ^ 23) L) ∙ ap (λ (u : ℕ). y * L * 2 ^ 23 + u) (mul-assoc 4000 z L))))
+scaled-up L x y z h = le-trans (le-of-eq (simp (mul-assoc, mul-comm, mul-left-comm))) (le-trans (mul-le-mul-right L h) (le-of-eq (simp (add-mul, mul-assoc, mul-comm, mul-left-comm))))
 
 scaled-down : (L x y z : ℕ) → y * 2 ^ 23 ≤ x * 1000 * 2 ^ 23 + 4000 * z → y * L * 2 ^ 23 ≤ x * L * 1000 * 2 ^ 23 + 4000 * (z * L)
-scaled-down L x y z h =
-    le-trans (le-of-eq (mul-right-comm y L (2 ^ 23)))
-    (le-trans (mul-le-mul-right L h) (le-of-eq (add-mul (x * 1000 * 2 ^ 23) (4000 * z) L ∙ ap (λ (u : ℕ). u + 4000 * z * L) (mul-right-comm (x * 1000) (2 ^ 23) L ∙ ap (λ (u : ℕ). u * 2 ^ 23) (mul-right-comm x 1000 L)) ∙ ap (λ (u : ℕ). x * L * 1000 * 2 ^ 23 + u) (mul-assoc 4000 z L))))
+scaled-down L x y z h = le-trans (le-of-eq (simp (mul-assoc, mul-comm, mul-left-comm))) (le-trans (mul-le-mul-right L h) (le-of-eq (simp (add-mul, mul-assoc, mul-comm, mul-left-comm))))
 
 -- the sum of the digits by their scale: neither overflows
 divided : (x y : Float) (v s em es : ℕ) (a : At x v em) (b : At y s es) → em ≤ 2 ^ 30 → es ≤ 2 ^ 30 → 0 < s → v ≤ s → (0 < b .units) × Rounded binary64 (a .units) (b .units) 20 (x ⊘ y)
@@ -278,22 +276,16 @@ quotient-near x y v s k em es a b he hs sp vs kk e =
     record { units = r .units; is = r .is; above = cancel-up L (r .units) gs k G nu; below = cancel-down L (r .units) gs k G nd }
   where
     times : (k Y gs : ℕ) → Y * 2 ^ 23 ≤ gs * 2 ^ 23 + Y → k * Y * 2 ^ 23 ≤ k * gs * 2 ^ 23 + k * Y
-    times k Y gs h = le-trans (le-of-eq (mul-assoc k Y (2 ^ 23))) (le-trans (mul-le-mul-left k h) (le-of-eq (mul-add k (gs * 2 ^ 23) Y ∙ ap (λ (u : ℕ). u + k * Y) (sym (mul-assoc k gs (2 ^ 23))))))
+    times k Y gs h = le-trans (le-of-eq (simp (mul-assoc))) (le-trans (mul-le-mul-left k h) (le-of-eq (simp (mul-add, mul-assoc))))
 
     times' : (k Y gs : ℕ) → gs * 2 ^ 23 ≤ Y * 2 ^ 23 + Y → k * gs * 2 ^ 23 ≤ k * Y * 2 ^ 23 + k * Y
-    times' k Y gs h = le-trans (le-of-eq (mul-assoc k gs (2 ^ 23))) (le-trans (mul-le-mul-left k h) (le-of-eq (mul-add k (Y * 2 ^ 23) Y ∙ ap (λ (u : ℕ). u + k * Y) (sym (mul-assoc k Y (2 ^ 23))))))
+    times' k Y gs h = le-trans (le-of-eq (simp (mul-assoc))) (le-trans (mul-le-mul-left k h) (le-of-eq (simp (mul-add, mul-assoc))))
 
-    cancel-up : (L g gs k : ℕ) → 0 < gs → g * gs * 1000 * 2 ^ 14 ≤ k * gs * L * 2 ^ 14 + 1000 * (gs * L) → g * 1000 * 2 ^ 14 ≤ k * L * 2 ^ 14 + 1 * 1000 * L
-    cancel-up L g gs k p h =
-        le-of-mul-le-mul-right
-        (le-trans (le-of-eq (mul-right-comm (g * 1000) (2 ^ 14) gs ∙ ap (λ (u : ℕ). u * 2 ^ 14) (mul-right-comm g 1000 gs)))
-        (le-trans h (le-of-eq (sym (add-mul (k * L * 2 ^ 14) (1 * 1000 * L) gs ∙ ap (λ (u : ℕ). u + 1 * 1000 * L * gs) (mul-right-comm (k * L) (2 ^ 14) gs ∙ ap (λ (u : ℕ). u * 2 ^ 14) (mul-right-comm k L gs)) ∙ ap (λ (u : ℕ). k * gs * L * 2 ^ 14 + u) (mul-assoc 1000 L gs ∙ ap (λ (u : ℕ). 1000 * u) (mul-comm L gs))))))) p
+    cancel-up : (L g gs k : ℕ) → 0 < gs → g * gs * 1000 * 2 ^ 14 ≤ k * gs * L * 2 ^ 14 + 1000 * (gs * L) → g * 1000 * 2 ^ 14 ≤ k * L * 2 ^ 14 + 1000 * L
+    cancel-up L g gs k p h = le-of-mul-le-mul-right (le-trans (le-of-eq (simp (mul-assoc, mul-comm, mul-left-comm))) (le-trans h (le-of-eq (simp (add-mul, mul-assoc, mul-comm, mul-left-comm))))) p
 
-    cancel-down : (L g gs k : ℕ) → 0 < gs → k * gs * L * 2 ^ 14 ≤ g * gs * 1000 * 2 ^ 14 + 1000 * (gs * L) → k * L * 2 ^ 14 ≤ g * 1000 * 2 ^ 14 + 1 * 1000 * L
-    cancel-down L g gs k p h =
-        le-of-mul-le-mul-right
-        (le-trans (le-of-eq (mul-right-comm (k * L) (2 ^ 14) gs ∙ ap (λ (u : ℕ). u * 2 ^ 14) (mul-right-comm k L gs)))
-        (le-trans h (le-of-eq (sym (add-mul (g * 1000 * 2 ^ 14) (1 * 1000 * L) gs ∙ ap (λ (u : ℕ). u + 1 * 1000 * L * gs) (mul-right-comm (g * 1000) (2 ^ 14) gs ∙ ap (λ (u : ℕ). u * 2 ^ 14) (mul-right-comm g 1000 gs)) ∙ ap (λ (u : ℕ). g * gs * 1000 * 2 ^ 14 + u) (mul-assoc 1000 L gs ∙ ap (λ (u : ℕ). 1000 * u) (mul-comm L gs))))))) p
+    cancel-down : (L g gs k : ℕ) → 0 < gs → k * gs * L * 2 ^ 14 ≤ g * gs * 1000 * 2 ^ 14 + 1000 * (gs * L) → k * L * 2 ^ 14 ≤ g * 1000 * 2 ^ 14 + 1000 * L
+    cancel-down L g gs k p h = le-of-mul-le-mul-right (le-trans (le-of-eq (simp (mul-assoc, mul-comm, mul-left-comm))) (le-trans h (le-of-eq (simp (add-mul, mul-assoc, mul-comm, mul-left-comm))))) p
 
 -- ---- "above 0.999 becomes 0.999"
 abbrev most : Float
@@ -303,9 +295,9 @@ pub most-near : Nearly most 999 1
 unfolding round
 most-near = record { units = 8998192055486251 * 2 ^ 1021; is = (refl, refl); above = lit≤ tt; below = lit≤ tt }
 
-most-plain : T (plain most)
+pub most-plain : Plain most
 unfolding round
-most-plain = tt
+most-plain = is-plain most tt
 
 lt-units : (x y : Float) (a b c : ℕ) → 0 < c → HasValue x false a c → HasValue y false b c → lt x y ≡ true → a < b
 unfolding lt
@@ -341,12 +333,12 @@ cap-near q k h r = go (lt most q) (λ t. lt-units most q (most-near .units) (r .
         (sym (is-999 k h (λ (n : k ≤ 998). too-far (2 ^ 1074) (r .units) (most-near .units) (k * 2 ^ 1074) (pow-pos 1074) (l refl) (most-near .below) (r .above) (mul-le-mul-right (2 ^ 1074) n)))) most-near
     go false l = r
 
-cap-within : (q : Float) → T (plain q) → T (plain (capped q)) × Within (capped q) most
+cap-within : (q : Float) → Plain q → Plain (capped q) × Within (capped q) most
 unfolding capped
-cap-within q p = go (lt most q) (not-above q most p most-plain)
+cap-within q p = go (lt most q) (not-above p most-plain)
   where
-    go : (b : Bool) → (b ≡ false → Within q most) → T (plain (if b then most else q)) × Within (if b then most else q) most
-    go true w = (most-plain, within-self most most-plain)
+    go : (b : Bool) → (b ≡ false → Within q most) → Plain (if b then most else q) × Within (if b then most else q) most
+    go true w = (most-plain, within-self most-plain)
     go false w = (p, w refl)
 
 -- ---- the fraction of a second, of up to 255 digits: as many as a time value holds
@@ -386,7 +378,7 @@ module _ (ds : List ℕ) (D : Digits ds) (h : length ds ≤ 255) where
       (quotient-near sum by (value 0 ds) (10 ^ n) k (4 * n) (2 * n) (sum-at .0) by-at (few-parts 4 n (lit≤ tt) h) (few-parts 2 n (lit≤ tt) h) (one-le-pow n 10 (lit≤ tt)) (le-of-lt (sum-at .1)) (le-trans kk (lit≤ tt)) e)
 
   -- any digits: finite, from 0 to 0.999
-  pub fraction-within : T (plain (fractionOf ds)) × Within (fractionOf ds) (ratio 999 1000)
+  pub fraction-within : Plain (fractionOf ds) × Within (fractionOf ds) (ratio 999 1000)
   unfolding fractionOf capped
   fraction-within =
       let q = divided sum by (value 0 ds) (10 ^ n) (4 * n) (2 * n) (sum-at .0) by-at (few-parts 4 n (lit≤ tt) h) (few-parts 2 n (lit≤ tt) h) (one-le-pow n 10 (lit≤ tt)) (le-of-lt (sum-at .1)) .1 in

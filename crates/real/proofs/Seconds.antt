@@ -18,9 +18,10 @@ use Rattle.rules.specs.Reading.{digitSum, scale, fractionOf}
 use Rattle.real.specs.InMinute.{inMinute}
 use Rattle.real.proofs.Run.{Digits}
 use Rattle.real.proofs.Millis.{Nearly, nearly-sum, nearly-ms, nearly-decimals, nearly-quotient}
-use Rattle.real.proofs.Fractions.{value-lt, fraction-near, fraction-within, most-near}
+use Rattle.real.proofs.Fractions.{value-lt, fraction-near, fraction-within, most-near, most-plain}
 use Rattle.real.proofs.Near.{number-val, div-at}
-use Rattle.real.proofs.Within.{Within, plain, plain-val, plain-mul, plain-add, within-self, within-mul, within-add, within-below, within-le, not-below, whole-within, decimals-within, between, number-within, number-plain, within-round, and-left, and-right}
+use Rattle.real.proofs.Within.{Within, Plain, plain-val, isPlain, is-plain, within-self, within-mul, within-add, within-round, plain-mul, plain-add, whole-within, decimals-within, half-self}
+use Rattle.real.proofs.Tests.{and-left, and-right, number-plain, number-within, within-below, within-le, not-below, between}
 
 -- ---- the fraction
 
@@ -31,15 +32,18 @@ fraction-none = refl
 
 -- any digits, up to 255 of them: as many as a time value holds
 pub fraction-span : (ds : List ℕ) → Digits ds → length ds ≤ 255 → (le (number 0) (fractionOf ds) ≡ true) × (le (fractionOf ds) (ratio 999 1000) ≡ true)
-fraction-span ds D n = let (p, w) = fraction-within ds D n in (not-below (fractionOf ds) p, within-le (fractionOf ds) (ratio 999 1000) p w)
+fraction-span ds D n = let (p, w) = fraction-within ds D n in (not-below p, within-le p w)
 
 -- ---- milliseconds grow with the seconds, up to 59.999
 abbrev top : Float
 top = ratio 59999 1000
 
-plains : T (plain top) × T (plain half) × T (plain (top ⊗ number 1000)) × T (plain (top ⊗ number 1000 ⊕ half)) × T (plain (ratio 999 1000))
+plains : T (isPlain top) × T (isPlain (top ⊗ number 1000)) × T (isPlain (top ⊗ number 1000 ⊕ half))
 unfolding ofInt round mul add
-plains = (tt, tt, tt, tt, tt)
+plains = (tt, tt, tt)
+
+top-plain : Plain top
+top-plain = is-plain top (plains .0)
 
 -- 59.999 is the sum of its parts: computed apart, since two computations are costly to compare
 abbrev digits : Float
@@ -72,14 +76,13 @@ top-lt = lit≤ tt
 thousand : Within (number 1000) (number 1000)
 thousand = number-within 1000 1000 (le-refl 1000) (lit≤ tt)
 
-seconds-mono : (x y : Float) → Within x y → Within y top → secondsMs x ≤ secondsMs y
-seconds-mono x y w v =
-    let h = within-self half (plains .1) in
-    let m = within-mul y top (number 1000) (number 1000) v thousand (plains .2) in
-    let p = plain-mul y (number 1000) (w .plain-y) (thousand .plain-y) (m .finite-x) in
-    let a = within-add (y ⊗ number 1000) (top ⊗ number 1000) half half m h (plains .3) in
-    let q = plain-add (y ⊗ number 1000) half p (plains .1) (a .finite-x) in
-    whole-within (x ⊗ number 1000 ⊕ half) (y ⊗ number 1000 ⊕ half) (within-add (x ⊗ number 1000) (y ⊗ number 1000) half half (within-mul x y (number 1000) (number 1000) w thousand p) h q)
+seconds-mono : {x y : Float} → Within x y → Within y top → secondsMs x ≤ secondsMs y
+seconds-mono w v =
+    let m = within-mul v thousand (plains .1) in
+    let p = plain-mul (w .right) (thousand .right) (m .left) in
+    let a = within-add m half-self (plains .2) in
+    let x = within-mul w thousand p in
+    whole-within (within-add x half-self (plain-add (x .right) (half-self .right) (a .left)))
 
 -- ---- whole seconds and a fraction, of up to 255 digits: as many as a time value holds
 module _ (ds : List ℕ) (s : ℕ) (D : Digits ds) (n : length ds ≤ 255) (hs : s ≤ 59) where
@@ -100,25 +103,23 @@ module _ (ds : List ℕ) (s : ℕ) (D : Digits ds) (n : length ds ≤ 255) (hs :
       rest m h = omega arith
 
   -- any digits: 0.999 at most
-  whole-seconds : Within (number s) (number 59)
-  whole-seconds = number-within s 59 hs (lit≤ tt)
-
-  read-within : (f : Float) → Within f (ratio 999 1000) → Within (number s ⊕ f) top
-  read-within f w = subst (λ (z : Float). Within (number s ⊕ f) z) (top-sum ∙ sym top-is) (within-add (number s) (number 59) f (ratio 999 1000) whole-seconds w (subst (λ (z : Float). T (plain z)) (sym top-sum) tt))
+  read-within : {f : Float} → Within f (ratio 999 1000) → Within (number s ⊕ f) top
+  read-within {f} w = subst (λ (z : Float). Within (number s ⊕ f) z) (top-sum ∙ sym top-is) (within-add (number-within s 59 hs (lit≤ tt)) w (subst (λ (z : Float). T (isPlain z)) (sym top-sum) tt))
 
   pub any-ms : secondsMs (number s ⊕ fractionOf ds) ≤ 1000 * s + 999
   any-ms =
-      let most = ratio 999 1000 in
-      let near = nearly-sum s 999 most hs (le-refl 999) most-near in
-      let w = within-add (number s) (number s) (fractionOf ds) most (number-within s s (le-refl s) (le-trans hs (lit≤ tt))) (fraction-within ds D n .1) (plain-val (number s ⊕ most) (near .units) (2 ^ 1074) (near .is)) in
-      le-trans (seconds-mono (number s ⊕ fractionOf ds) (number s ⊕ most) w (read-within most (within-self most (plains .4)))) (le-of-eq (nearly-ms (number s ⊕ most) (1000 * s + 999) (omega arith) near))
+      let most = within-self most-plain in
+      let near = nearly-sum s 999 (ratio 999 1000) hs (le-refl 999) most-near in
+      let self = number-within s s (le-refl s) (le-trans hs (lit≤ tt)) in
+      let w = within-add self (fraction-within ds D n .1) (plain-add (self .right) most-plain (read-within most .left)) in
+      le-trans (seconds-mono w (read-within most)) (le-of-eq (nearly-ms (number s ⊕ ratio 999 1000) (1000 * s + 999) (omega arith) near))
 
   pub read-minute : inMinute (number s ⊕ fractionOf ds) ≡ true
   read-minute =
-      let x = number s ⊕ fractionOf ds in
-      let w = read-within (fractionOf ds) (fraction-within ds D n .1) in
-      let p = plain-add (number s) (fractionOf ds) (number-plain s (le-trans hs (lit≤ tt))) (fraction-within ds D n .0) (w .finite-x) in
-      rw (not-below x p) (within-le x top p w)
+      let (q, f) = fraction-within ds D n in
+      let w = read-within f in
+      let p = is-plain (number s ⊕ fractionOf ds) (plain-add (number-plain s (le-trans hs (lit≤ tt))) q (w .left)) in
+      rw (not-below p) (within-le p w)
 
 -- ---- what is left of a day's milliseconds, as seconds
 module _ (t : ℕ) (h : t ≤ 59999) where
@@ -142,21 +143,21 @@ module _ (t : ℕ) (h : t ≤ 59999) where
   filled-minute =
       let p = plain-val filled (near .units) (2 ^ 1074) (near .is) in
       let w = subst (λ (z : Float). Within z top) (sym filled-is) (within-round false (t * 1) 1000 59999 1000 (lit≤ tt) (lit≤ tt) (mul-le-mul-right 1000 (le-trans (le-of-eq (mul-one t)) h)) (plains .0)) in
-      rw (not-below filled p) (within-le filled top p w)
+      rw (not-below p) (within-le p w)
 
 -- ---- the seconds of a time of day
 module _ (x : Float) (h : inMinute x ≡ true) where
   within-top : Within x top
-  within-top = between (number 0) x top (number-plain 0 (lit≤ tt)) (plains .0) (and-left (le (number 0) x) (le x top) h) (and-right (le (number 0) x) (le x top) h) .0
+  within-top = between x (number-plain 0 (lit≤ tt)) top-plain (and-left (le (number 0) x) (le x top) h) (and-right (le (number 0) x) (le x top) h) .0
 
   pub minute-ms : secondsMs x ≤ 59999
-  minute-ms = le-trans (seconds-mono x top within-top (within-self top (plains .0))) (le-of-eq top-ms)
+  minute-ms = le-trans (seconds-mono within-top (within-self top-plain)) (le-of-eq top-ms)
 
   pub minute-thousandths : decimals 3 x ≤ 59999
-  minute-thousandths = le-trans (decimals-within 3 x top within-top) (le-of-eq top-thousandths)
+  minute-thousandths = le-trans (decimals-within 3 within-top) (le-of-eq top-thousandths)
 
   pub minute-whole : whole x ≤ 59
-  minute-whole = le-trans (whole-within x top within-top) (le-of-eq top-whole)
+  minute-whole = le-trans (whole-within within-top) (le-of-eq top-whole)
 
   pub minute-below : below x (number 9007199254740992) ≡ true
-  minute-below = within-below x top (number 9007199254740992) within-top (number-plain 9007199254740992 (lit≤ tt)) top-lt
+  minute-below = within-below within-top (number-plain 9007199254740992 (lit≤ tt)) top-lt

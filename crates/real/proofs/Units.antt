@@ -10,17 +10,17 @@ use lib.IntN.{ℤ, pos, negℤ, natAbs}
 use lib.Ieee.{Float, nan, inf, fin, binary64, up, down, add, sub, mul, neg, sum, ofInt, round, toSigned, toUnsigned}
 use lib.Ieee.Back.{round-whole}
 use lib.Ieee.Exact.{HasValue}
-use lib.Ieee.Scale.{finite}
 use lib.Ieee.Fits.{down-pos}
 use lib.Ieee.Positive.{num, den, den-pos}
 use Rattle.rules.specs.Floats.{number, half, cut, whole, below, _⊕_, _⊖_, _⊗_}
 use Rattle.rules.specs.Modifiers.{signed, unitMs, fractionMs}
 use Rattle.real.specs.StepMost.{stepMost}
-use Rattle.real.proofs.Within.{Within, plain, within-self, within-mul, within-round, rounded-within, below-number, below-within, number-plain}
+use Rattle.real.proofs.Within.{Finite, Within, isPlain, is-plain, within-self, within-mul, within-round, rounded-within}
+use Rattle.real.proofs.Tests.{below-number, below-within, number-within, is-finite}
 
 -- ---- units of a fixed length: a number below the limit moves no further than the limit would
-unit-ms : (limit unit n : Float) → T (plain limit) → T (plain unit) → T (plain (limit ⊗ unit)) → T (plain (limit ⊗ unit ⊕ half)) → below n limit ≡ true → natAbs (unitMs unit n) ≤ whole (limit ⊗ unit ⊕ half)
-unit-ms limit unit n p q r s h = rounded-within (n ⊗ unit) (limit ⊗ unit) (within-mul n limit unit unit (below-within n limit p h) (within-self unit q) r) s
+unit-ms : (limit unit n : Float) → T (isPlain limit) → T (isPlain unit) → T (isPlain (limit ⊗ unit)) → T (isPlain (limit ⊗ unit ⊕ half)) → below n limit ≡ true → natAbs (unitMs unit n) ≤ whole (limit ⊗ unit ⊕ half)
+unit-ms limit unit n p q r s h = rounded-within (within-mul (below-within n (is-plain limit p) h) (within-self (is-plain unit q)) r) s
 
 pub days-ms : (n : Float) → below n (number 5373485) ≡ true → natAbs (unitMs (number 86400000) n) ≤ 464269104000000
 unfolding ofInt round mul add toUnsigned
@@ -43,7 +43,7 @@ seconds-ms n h = unit-ms (number 464270000000000) (number 1000) n tt tt tt tt h
 -- the sizes of a difference of two numbers of one sign that lie less than c apart, or of a number up to c and none
 one-within : (s : Bool) (z c : ℕ) → 0 < c → z ≤ c → Within (round binary64 s z c) (number 1)
 unfolding ofInt
-one-within s z c C h = within-round s z c 1 1 C (lit≤ tt) (omega arith) (number-plain 1 (lit≤ tt))
+one-within s z c C h = within-round s z c 1 1 C (lit≤ tt) (omega arith) tt
 
 apart-within : (s t r : Bool) (a b c : ℕ) → 0 < c → b ≤ a → a ≤ b + c → Within (cond r (round binary64 t (b - a) c) (round binary64 s (a - b) c)) (number 1)
 apart-within s t true a b c C l h = one-within t (b - a) c C (omega arith)
@@ -93,19 +93,19 @@ part true zero h = record { sign = false; is = round-whole binary64 false 0 h; s
 part true (suc q) h = record { sign = true; is = round-whole binary64 true (suc q) h; same = inl refl }
 
 -- of a number of magnitude below k
-whole-lt : (n : Float) (k : ℕ) → k ≤ 2 ^ 53 → below n (number k) ≡ true → T (finite n) × (num n / den n < k)
+whole-lt : (n : Float) (k : ℕ) → k ≤ 2 ^ 53 → below n (number k) ≡ true → Finite n × (num n / den n < k)
 whole-lt n k K h = let (f, l) = below-number n k K h in (f, div-lt-iff-lt-mul (den-pos n) .1 l)
 
 pub cut-below : (n : Float) (k : ℕ) → k ≤ 2 ^ 53 → below n (number k) ≡ true → natAbs (cut n) < k
-cut-below nan k K h = absurd (whole-lt nan k K h .0)
-cut-below (inf s) k K h = absurd (whole-lt (inf s) k K h .0)
+cut-below nan k K h = absurd (is-finite (whole-lt nan k K h .0))
+cut-below (inf s) k K h = absurd (is-finite (whole-lt (inf s) k K h .0))
 cut-below (fin s m e) k K h =
     let l = whole-lt (fin s m e) k K h .1 in
     rw (cut-is s m e (lt-of-lt-of-le l K), abs-signed s (m * up e / down e)) l
 
 rest-one : (n : Float) (k : ℕ) → k ≤ 2 ^ 53 → below n (number k) ≡ true → Within (n ⊖ ofInt binary64 (cut n)) (number 1)
-rest-one nan k K h = absurd (whole-lt nan k K h .0)
-rest-one (inf s) k K h = absurd (whole-lt (inf s) k K h .0)
+rest-one nan k K h = absurd (is-finite (whole-lt nan k K h .0))
+rest-one (inf s) k K h = absurd (is-finite (whole-lt (inf s) k K h .0))
 rest-one (fin s m e) k K h =
     let a = m * up e in
     let d = down e in
@@ -115,13 +115,10 @@ rest-one (fin s m e) k K h =
     rw (cut-is s m e l) (rest-within s m e (ofInt binary64 (signed s (a / d))) (p .sign) (a / d) (p .is) (p .same) (div-mul-le-self a d) r)
 
 -- ---- the rest in milliseconds: at most a whole unit's days
-fraction-ms : (days n : Float) (k : ℕ) → k ≤ 2 ^ 53 → T (plain days) → T (plain (number 1 ⊗ days)) → T (plain (number 1 ⊗ days ⊗ number 86400000)) → T (plain (number 1 ⊗ days ⊗ number 86400000 ⊕ half)) → below n (number k) ≡ true
+fraction-ms : (days n : Float) (k : ℕ) → k ≤ 2 ^ 53 → T (isPlain days) → T (isPlain (number 1 ⊗ days)) → T (isPlain (number 1 ⊗ days ⊗ number 86400000)) → T (isPlain (number 1 ⊗ days ⊗ number 86400000 ⊕ half)) → below n (number k) ≡ true
     → natAbs (fractionMs days n) ≤ whole (number 1 ⊗ days ⊗ number 86400000 ⊕ half)
 fraction-ms days n k K p q r s h =
-    let x = n ⊖ ofInt binary64 (cut n) in
-    let day = number 86400000 in
-    let w = within-mul x (number 1) days days (rest-one n k K h) (within-self days p) q in
-    rounded-within (x ⊗ days ⊗ day) (number 1 ⊗ days ⊗ day) (within-mul (x ⊗ days) (number 1 ⊗ days) day day w (within-self day (number-plain 86400000 (lit≤ tt))) r) s
+    rounded-within (within-mul (within-mul (rest-one n k K h) (within-self (is-plain days p)) q) (number-within 86400000 86400000 (le-refl 86400000) (lit≤ tt)) r) s
 
 pub months-ms : (n : Float) → below n (number 176546) ≡ true → natAbs (fractionMs (number 30) n) ≤ 2592000000
 unfolding ofInt round mul add toUnsigned

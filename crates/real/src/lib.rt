@@ -2,12 +2,11 @@
 // function says what it asks.
 //
 // A contract is an equation with a definition of crate rules, so it says which operations are made and in what order. How far
-// those lead stands as laws in proofs/: Seconds, Fractions, Epoch, Units.
+// those lead stands as laws in proofs/: Seconds, Epoch, Units.
 // Milliseconds are held as crate rules says: a u64 that is 2^63 above the count from noon of -4713-11-24.
 ghost use mathlib.Core.Path.{_≡_};
 ghost use mathlib.Core.Bool.{true};
-ghost use Prim.Native.Nat.{_+_, _*_, _^_, _<_, _≤_};
-ghost use lib.IntN.{pos};
+ghost use Prim.Native.Nat.{_^_, _<_, _≤_};
 ghost use lib.ListN.{length};
 ghost use lib.Ieee.{binary64, ofInt, minus};
 ghost use lib.Ieee.Nearest.{closest};
@@ -251,22 +250,28 @@ fn nearest(n: u64, p: u64) -> u64
     }
 }
 
-// A magnitude, digits / 2^shift, by the bit pattern: 52 binary digits below the exponent's field.
+// In an f64's bit pattern, the weights of the sign, 2^63, and of the exponent's field, 2^52. The digits are below.
+const SIGN: u64 = 9223372036854775808;
+
+const FIELD: u64 = 4503599627370496;
+
+// A magnitude, digits / 2^shift.
 struct Parts {
     digits: u64,
     shift: u64,
 }
 
+// The magnitude of x, for one below 2^53. A leading digit stands above the others, unless the field is 0.
 fn parts_of(x: f64) -> Parts
     requires { ⌜ floats.below x (number 9007199254740992) ≡ true ⌝ }
     ensures { λ r. ⌜ PartsOf x (r .digits) (r .shift) ⌝ }
 {
-    let bits = f64::to_bits(x) % 9223372036854775808;
-    let exponent = bits / 4503599627370496;
-    let digits = bits % 4503599627370496;
+    let bits = f64::to_bits(x) % SIGN;
+    let exponent = bits / FIELD;
+    let digits = bits % FIELD;
     if exponent > 0 {
         Parts {
-            digits: 4503599627370496 + digits,
+            digits: FIELD + digits,
             shift: 1075 - exponent,
         }
     } else {
@@ -277,7 +282,7 @@ fn parts_of(x: f64) -> Parts
     }
 }
 
-// |x| in thousandths, for a magnitude below 2^53. Of 2^-64 and less no thousandth is left.
+// |x| in thousandths, for a magnitude below 2^53. A shift of 64 or more leaves less than 2^-11, and that is less than half of one.
 pub fn thousandths(x: f64) -> u64
     requires { ⌜ floats.below x (number 9007199254740992) ≡ true ⌝ }
     ensures { λ r. ⌜ r ≡ decimals 3 x ⌝ }

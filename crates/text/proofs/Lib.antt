@@ -1,4 +1,6 @@
+pub mod Tests
 pub mod Bytes
 pub mod Runs
-pub mod Numbers
+pub mod Digits
 pub mod Words
+pub mod Reading

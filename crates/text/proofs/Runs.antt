@@ -1,6 +1,6 @@
 -- Runs of bytes that pass a test f: at the front of what stands at a place, and at the end of a text. Assumes nothing.
 use Prim.Native.Nat.{ℕ, suc, _+_, _-_, _≤_, _<_}
-use mathlib.Core.Bool.{Bool, true, false, _&&_}
+use mathlib.Core.Bool.{Bool, true, false}
 use mathlib.Core.Path.{_≡_, refl, ap, sym}
 use mathlib.Core.List.{List, [], _∷_, _++_}
 use native.Mathlib.Numerals.{add-one}
@@ -9,6 +9,7 @@ use lib.ListN.{length, getD, take, drop, length-drop, drop-of-length-le}
 use lib.Seq.{drop-cons, drop-drop, take-suc, take-all, getD-drop}
 use Rattle.rules.specs.Basics.{if_then_else_, every, skip, front, trimEnd}
 use Rattle.text.specs.Places.{part, endAt, Passed}
+use Rattle.text.proofs.Tests.{and-false}
 
 -- ---- one step at a place
 pub front-past : (f : ℕ → Bool) (s : List ℕ) (i : ℕ) → length s ≤ i → front f (drop i s) ≡ []
@@ -96,30 +97,26 @@ passed f s at r e =
       place = sym e;
       bytes = rw n (take-front f (drop at s));
       rest = rw (← e, ← drop-drop (length (front f (drop at s))) at s) (drop-front f (drop at s));
-      inside = λ k. omega (arith, length-drop at s);
+      inside = omega (arith, length-drop at s);
     }
 
 -- ---- the end of a text
 module _ (f : ℕ → Bool) (b : ℕ) where
-  all-more : f b ≡ true → (l : List ℕ) → every f (l ++ b ∷ []) ≡ every f l
+  all-on : f b ≡ true → (l : List ℕ) → every f (l ++ b ∷ []) ≡ every f l
   unfolding every
-  all-more h [] = rw h
-  all-more h (x ∷ l) = rw (all-more h l)
+  all-on h [] = rw h
+  all-on h (x ∷ l) = rw (all-on h l)
 
   all-stop : f b ≡ false → (l : List ℕ) → every f (l ++ b ∷ []) ≡ false
   unfolding every
   all-stop h [] = rw h
   all-stop h (x ∷ l) = rw (all-stop h l) (and-false (f x))
-    where
-      and-false : (t : Bool) → t && false ≡ false
-      and-false true = refl
-      and-false false = refl
 
   -- the last byte is left out
-  pub trim-more : f b ≡ true → (l : List ℕ) → trimEnd f (l ++ b ∷ []) ≡ trimEnd f l
+  pub trim-on : f b ≡ true → (l : List ℕ) → trimEnd f (l ++ b ∷ []) ≡ trimEnd f l
   unfolding every trimEnd
-  trim-more h [] = rw h
-  trim-more h (x ∷ l) = rw (all-more h l, trim-more h l)
+  trim-on h [] = rw h
+  trim-on h (x ∷ l) = rw (all-on h l, trim-on h l)
 
   -- or it stays, and so does all before it
   pub trim-stop : f b ≡ false → (l : List ℕ) → trimEnd f (l ++ b ∷ []) ≡ l ++ b ∷ []
@@ -142,8 +139,8 @@ module _ (f : ℕ → Bool) (s : List ℕ) (from end : ℕ) (h : from < end) (k 
       let p : from + (end - 1 - from) ≡ end - 1 = omega arith in
       rw (n, take-suc (drop from s) (end - 1 - from) 0 (simp length-drop (omega arith)), getD-drop from s (end - 1 - from) 0, p)
 
-  pub cut-more : f (getD s (end - 1) 0) ≡ true → trimEnd f (part s from end) ≡ trimEnd f (part s from (end - 1))
-  cut-more e = rw last (trim-more f _ e (part s from (end - 1)))
+  pub cut-on : f (getD s (end - 1) 0) ≡ true → trimEnd f (part s from end) ≡ trimEnd f (part s from (end - 1))
+  cut-on e = rw last (trim-on f _ e (part s from (end - 1)))
 
   pub cut-stop : f (getD s (end - 1) 0) ≡ false → trimEnd f (part s from end) ≡ part s from end
   cut-stop e = rw last (trim-stop f _ e (part s from (end - 1)))

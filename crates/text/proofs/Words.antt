@@ -1,19 +1,18 @@
 -- Words, letters in either case. Assumes nothing.
 use Prim.Native.Nat.{ℕ, suc, _+_, _-_, _≤_, _<_}
-use mathlib.Core.Bool.{Bool, true, false, _&&_}
+use mathlib.Core.Bool.{Bool, true, false}
 use mathlib.Core.Logic.{_≢_}
 use mathlib.Core.Path.{_≡_, refl, ap}
 use mathlib.Core.List.{List, [], _∷_}
+use native.Mathlib.Nat.{sub-zero}
 use native.Mathlib.Numerals.{add-one}
 use native.Mathlib.Omega.{arith}
 use lib.Dec.{eqb}
 use lib.ListN.{length, getD, take, drop, drop-of-length-le}
 use lib.Seq.{drop-cons, take-all}
-use Rattle.rules.specs.Basics.{lower, word}
-
-and-false : (t : Bool) → t && false ≡ false
-and-false true = refl
-and-false false = refl
+use Rattle.rules.specs.Basics.{lower, word, got, other, beside}
+use Rattle.text.specs.Places.{leads}
+use Rattle.text.proofs.Tests.{and-false}
 
 pub word-length : (w s : List ℕ) → length w ≢ length s → word w s ≡ false
 unfolding word
@@ -22,12 +21,22 @@ word-length [] (b ∷ s) h = refl
 word-length (c ∷ w) [] h = refl
 word-length (c ∷ w) (b ∷ s) h = rw (word-length w s (λ e. h (ap suc e))) (and-false (eqb c (lower b)))
 
-pub word-short : (w s : List ℕ) → length s < length w → word w (take (length w) s) ≡ false
-word-short w s h = rw (take-all (length w) s (omega arith)) (word-length w s (omega arith))
+pub leads-short : (w s : List ℕ) → length s < length w → leads w s ≡ false
+unfolding leads
+leads-short w s h = rw (take-all (length w) s (omega arith)) (word-length w s (omega arith))
+
+-- the front of s that is as long as w is all of s
+pub leads-all : (w s : List ℕ) → length s ≡ length w → leads w s ≡ word w s
+unfolding leads
+leads-all w s e = rw (take-all (length w) s (omega arith))
 
 -- what is left to compare of w and the front of s, at one place after another
 abbrev pub ahead : List ℕ → List ℕ → ℕ → Bool
 ahead w s i = word (drop i w) (take (length w - i) (drop i s))
+
+pub ahead-none : (w s : List ℕ) → leads w s ≡ ahead w s 0
+unfolding leads
+ahead-none w s = rw sub-zero
 
 pub ahead-past : (w s : List ℕ) (i : ℕ) → length w ≤ i → ahead w s i ≡ true
 unfolding word
@@ -45,6 +54,16 @@ module _ (w s : List ℕ) (i : ℕ) (h : i < length w) (k : i < length s) where
   unfolding word
   ahead-stop e = rw (left-is, drop-cons w i 0 h, drop-cons s i 0 k, e)
 
--- the front of s that is as long as w is all of s
-pub word-all : (w s : List ℕ) → length s ≡ length w → word w (take (length w) s) ≡ word w s
-word-all w s e = rw (take-all (length w) s (omega arith))
+-- ---- a table of words, row by row
+module _ {A : Type 0} (row : List ℕ × A) (rows : List (List ℕ × A)) (s : List ℕ) where
+  pub beside-got : word (row .0) s ≡ true → beside (row ∷ rows) s ≡ got (row .1)
+  unfolding beside
+  beside-got h = rw h
+
+  pub beside-next : word (row .0) s ≡ false → beside (row ∷ rows) s ≡ beside rows s
+  unfolding beside
+  beside-next h = rw h
+
+pub beside-none : {A : Type 0} (s : List ℕ) → beside {A = A} [] s ≡ other
+unfolding beside
+beside-none s = refl

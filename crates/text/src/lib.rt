@@ -2,16 +2,19 @@
 //
 // The rules read a list from its front: a form takes bytes off, and what follows it is the rest of the list. The code reads a slice at a
 // place. The two meet in one way throughout: what stands at the place `at` of s is `drop at` of its bytes, and where a reader goes on at
-// `next`, what follows is `drop next`. A place may lie past the end, where nothing is left to read.
+// `next`, what follows is `drop next`. A place may lie past the end, where there is nothing to read: no function asks otherwise of a caller.
+//
+// With s = "2024-02-29TT 10:00": four_digits(s, 0, 0, 9999) is Number(2024, 4), has(s, 4, b'-') is true, two_digits(s, 5, 1, 12) is
+// Number(2, 7), skip_gap(s, 10) is 13.
 ghost use mathlib.Core.Path.{_≡_};
 ghost use mathlib.Core.Bool.{not};
-ghost use Prim.Native.Nat.{ℕ, _+_, _-_, _≤_};
+ghost use Prim.Native.Nat.{_+_, _-_, _≤_};
 ghost use lib.Dec.{leb};
-ghost use lib.ListN.{length, take, drop};
+ghost use lib.ListN.{length, drop};
 ghost use Rattle.rules.specs.Basics as rule;
 ghost use Rattle.rules.specs.Reading.{space};
 ghost use Rattle.rules.specs.Modifiers.{wideSpace};
-ghost use Rattle.text.specs.Places.{part, found, Told, limited, begins, gap, passes, Passed};
+ghost use Rattle.text.specs.Places.{part, stands, leads, gap, found, Told, limited, passes, Passed};
 
 // ---- a byte
 
@@ -38,7 +41,7 @@ pub fn is_wide(b: u8) -> bool
     is_space(b) || b == 11
 }
 
-// "Between date and time any run of whitespace and `T`": a small `t` is none.
+// "Between date and time any run of whitespace and `T`": the capital alone.
 pub fn is_gap(b: u8) -> bool
     ensures { λ r. ⌜ r ≡ gap b ⌝ }
 {
@@ -52,18 +55,9 @@ pub fn lower(b: u8) -> u8
     if b'A' <= b && b <= b'Z' { b + 32 } else { b }
 }
 
-// ---- at a place
-
-// How many bytes stand from a place on.
-pub fn left(s: &[u8], at: usize) -> usize
-    ensures { λ r. ⌜ r ≡ length (now (s .entry)) - at ⌝ }
-{
-    if at <= s.len() { s.len() - at } else { 0 }
-}
-
 // Whether the byte b stands at a place.
 pub fn has(s: &[u8], at: usize, b: u8) -> bool
-    ensures { λ r. ⌜ r ≡ begins b (drop at (now (s .entry))) ⌝ }
+    ensures { λ r. ⌜ r ≡ stands b (now (s .entry)) at ⌝ }
 {
     if s.len() <= at {
         return false;
@@ -71,53 +65,15 @@ pub fn has(s: &[u8], at: usize, b: u8) -> bool
     b == s[at]
 }
 
-// ---- numbers of a fixed width
+// ---- numbers of a fixed width: the Rust's get_digits, "always full digits"
 
-// What a reader of a number finds: the number, and the place that follows it; or another form.
+// A number and the place that follows it; or another form stands there.
 pub enum Found {
     Number(u32, usize),
     Other,
 }
 
-// A number that must be lo to hi.
-fn limit(v: u32, next: usize, lo: u32, hi: u32) -> Found
-    ensures { λ r. ⌜ r ≡ limited lo hi v next ⌝ }
-{
-    if v < lo {
-        return Found::Other;
-    }
-    if hi < v {
-        return Found::Other;
-    }
-    Found::Number(v, next)
-}
-
-// The number that a digit writes.
-fn value(b: u8) -> u32
-    requires { ⌜ (48 ≤ b) × (b ≤ 57) ⌝ }
-    ensures { λ r. ⌜ (r ≡ b - 48) × (r ≤ 9) ⌝ }
-{
-    (b - 48) as u32
-}
-
-// Two digits at a place, and the place that follows them.
-fn pair(s: &[u8], at: usize) -> Found
-    requires { ⌜ at + 2 ≤ length (now s) ⌝ }
-    ensures { λ r. ⌜ found (now (s .entry)) r ≡ rule.digitsOn 2 0 (drop at (now (s .entry))) ⌝ }
-    ensures { λ r. ⌜ Told 0 99 (at + 2) (length (now (s .entry))) r ⌝ }
-{
-    let tens = s[at];
-    if !is_digit(tens) {
-        return Found::Other;
-    }
-    let ones = s[at + 1];
-    if !is_digit(ones) {
-        return Found::Other;
-    }
-    Found::Number(value(tens) * 10 + value(ones), at + 2)
-}
-
-// The Rust's get_digits, "always full digits", at its two widths: a number of lo to hi.
+// Two digits whose number is lo to hi.
 pub fn two_digits(s: &[u8], at: usize, lo: u32, hi: u32) -> Found
     ensures { λ r. ⌜ found (now (s .entry)) r ≡ rule.digits 2 lo hi (drop at (now (s .entry))) ⌝ }
     ensures { λ r. ⌜ Told lo hi (at + 2) (length (now (s .entry))) r ⌝ }
@@ -131,6 +87,7 @@ pub fn two_digits(s: &[u8], at: usize, lo: u32, hi: u32) -> Found
     limit(v, next, lo, hi)
 }
 
+// Four digits whose number is lo to hi.
 pub fn four_digits(s: &[u8], at: usize, lo: u32, hi: u32) -> Found
     ensures { λ r. ⌜ found (now (s .entry)) r ≡ rule.digits 4 lo hi (drop at (now (s .entry))) ⌝ }
     ensures { λ r. ⌜ Told lo hi (at + 4) (length (now (s .entry))) r ⌝ }
@@ -147,10 +104,96 @@ pub fn four_digits(s: &[u8], at: usize, lo: u32, hi: u32) -> Found
     limit(hundreds * 100 + ones, next, lo, hi)
 }
 
+// How many bytes stand from a place on.
+pub fn left(s: &[u8], at: usize) -> usize
+    ensures { λ r. ⌜ r ≡ length (now (s .entry)) - at ⌝ }
+{
+    if at <= s.len() { s.len() - at } else { 0 }
+}
+
+// Two digits, where there are two bytes.
+fn pair(s: &[u8], at: usize) -> Found
+    requires { ⌜ at + 2 ≤ length (now s) ⌝ }
+    ensures { λ r. ⌜ found (now (s .entry)) r ≡ rule.digitsOn 2 0 (drop at (now (s .entry))) ⌝ }
+    ensures { λ r. ⌜ Told 0 99 (at + 2) (length (now (s .entry))) r ⌝ }
+{
+    let tens = s[at];
+    if !is_digit(tens) {
+        return Found::Other;
+    }
+    let ones = s[at + 1];
+    if !is_digit(ones) {
+        return Found::Other;
+    }
+    Found::Number(value(tens) * 10 + value(ones), at + 2)
+}
+
+// The number that a digit writes.
+fn value(b: u8) -> u32
+    requires { ⌜ (48 ≤ b) × (b ≤ 57) ⌝ }
+    ensures { λ r. ⌜ (r ≡ b - 48) × (r ≤ 9) ⌝ }
+{
+    (b - b'0') as u32
+}
+
+// A number that must be lo to hi.
+fn limit(v: u32, next: usize, lo: u32, hi: u32) -> Found
+    ensures { λ r. ⌜ r ≡ limited lo hi v next ⌝ }
+{
+    if v < lo {
+        return Found::Other;
+    }
+    if hi < v {
+        return Found::Other;
+    }
+    Found::Number(v, next)
+}
+
 // ---- runs of bytes
 
-// The kinds of bytes that stand in a run: whitespace of a time value, whitespace of a modifier, what stands between date and time, the
-// bytes of a word.
+// Past the whitespace of a time value.
+pub fn skip_space(s: &[u8], at: usize) -> usize
+    ensures { λ r. ⌜ Passed space (now (s .entry)) at r ⌝ }
+{
+    run_end(s, at, Kind::Space)
+}
+
+// Past the whitespace of a modifier.
+pub fn skip_wide(s: &[u8], at: usize) -> usize
+    ensures { λ r. ⌜ Passed wideSpace (now (s .entry)) at r ⌝ }
+{
+    run_end(s, at, Kind::Wide)
+}
+
+// Past what stands between date and time.
+pub fn skip_gap(s: &[u8], at: usize) -> usize
+    ensures { λ r. ⌜ Passed gap (now (s .entry)) at r ⌝ }
+{
+    run_end(s, at, Kind::Gap)
+}
+
+// Past a word of a modifier, which whitespace ends.
+pub fn word_end(s: &[u8], at: usize) -> usize
+    ensures { λ r. ⌜ Passed (λ b. not (wideSpace b)) (now (s .entry)) at r ⌝ }
+{
+    run_end(s, at, Kind::Word)
+}
+
+// "A decimal is trimmed of it on both sides."
+pub fn trim_space(s: &[u8]) -> &[u8]
+    ensures { λ r. ⌜ now r ≡ rule.trim space (now (s .entry)) ⌝ }
+{
+    trim(s, Kind::Space)
+}
+
+// A modifier that counts, and the number after `weekday `, are trimmed so.
+pub fn trim_wide(s: &[u8]) -> &[u8]
+    ensures { λ r. ⌜ now r ≡ rule.trim wideSpace (now (s .entry)) ⌝ }
+{
+    trim(s, Kind::Wide)
+}
+
+// The bytes that make up a run.
 enum Kind {
     Space,
     Wide,
@@ -169,7 +212,7 @@ fn is_of(kind: Kind, b: u8) -> bool
     }
 }
 
-// Where the run of a kind that begins at a place ends.
+// Where the run that begins at a place ends.
 fn run_end(s: &[u8], at: usize, kind: Kind) -> usize
     ensures { λ r. ⌜ Passed (passes kind) (now (s .entry)) at r ⌝ }
 {
@@ -183,36 +226,11 @@ fn run_end(s: &[u8], at: usize, kind: Kind) -> usize
     i
 }
 
-pub fn skip_space(s: &[u8], at: usize) -> usize
-    ensures { λ r. ⌜ Passed space (now (s .entry)) at r ⌝ }
-{
-    run_end(s, at, Kind::Space)
-}
-
-pub fn skip_wide(s: &[u8], at: usize) -> usize
-    ensures { λ r. ⌜ Passed wideSpace (now (s .entry)) at r ⌝ }
-{
-    run_end(s, at, Kind::Wide)
-}
-
-pub fn skip_gap(s: &[u8], at: usize) -> usize
-    ensures { λ r. ⌜ Passed gap (now (s .entry)) at r ⌝ }
-{
-    run_end(s, at, Kind::Gap)
-}
-
-// A word is split off at whitespace of a modifier.
-pub fn word_end(s: &[u8], at: usize) -> usize
-    ensures { λ r. ⌜ Passed (λ b. not (wideSpace b)) (now (s .entry)) at r ⌝ }
-{
-    run_end(s, at, Kind::Word)
-}
-
-// The end of s without the bytes of a kind there, but not before a place.
+// The end of s without a run there, but not before a place.
 fn cut_end(s: &[u8], from: usize, kind: Kind) -> usize
     requires { ⌜ from ≤ length (now s) ⌝ }
-    ensures { λ r. ⌜ (from ≤ r) × (r ≤ length (now (s .entry))) ⌝ }
     ensures { λ r. ⌜ part (now (s .entry)) from r ≡ rule.trimEnd (passes kind) (drop from (now (s .entry))) ⌝ }
+    ensures { λ r. ⌜ (from ≤ r) × (r ≤ length (now (s .entry))) ⌝ }
 {
     let mut end = s.len();
     while from < end {
@@ -224,7 +242,7 @@ fn cut_end(s: &[u8], from: usize, kind: Kind) -> usize
     end
 }
 
-// s without the bytes of a kind at either end.
+// s without a run at either end.
 fn trim(s: &[u8], kind: Kind) -> &[u8]
     ensures { λ r. ⌜ now r ≡ rule.trim (passes kind) (now (s .entry)) ⌝ }
 {
@@ -233,24 +251,21 @@ fn trim(s: &[u8], kind: Kind) -> &[u8]
     &s[from..end]
 }
 
-// "A decimal is trimmed of it on both sides."
-pub fn trim_space(s: &[u8]) -> &[u8]
-    ensures { λ r. ⌜ now r ≡ rule.trim space (now (s .entry)) ⌝ }
+// ---- words, "compared as bytes, letters in either case": w is written in small letters
+
+// Whether s is the word w.
+pub fn is_word(s: &[u8], w: &[u8]) -> bool
+    ensures { λ r. ⌜ r ≡ rule.word (now (w .entry)) (now (s .entry)) ⌝ }
 {
-    trim(s, Kind::Space)
+    if s.len() != w.len() {
+        return false;
+    }
+    starts(s, w)
 }
 
-pub fn trim_wide(s: &[u8]) -> &[u8]
-    ensures { λ r. ⌜ now r ≡ rule.trim wideSpace (now (s .entry)) ⌝ }
-{
-    trim(s, Kind::Wide)
-}
-
-// ---- words, "compared as bytes, letters in either case"; w is written in small letters
-
-// Whether s begins with w.
+// Whether s begins with the word w, as starts(m, b"start of ") asks of a modifier.
 pub fn starts(s: &[u8], w: &[u8]) -> bool
-    ensures { λ r. ⌜ r ≡ rule.word (now (w .entry)) (take (length (now (w .entry))) (now (s .entry))) ⌝ }
+    ensures { λ r. ⌜ r ≡ leads (now (w .entry)) (now (s .entry)) ⌝ }
 {
     if s.len() < w.len() {
         return false;
@@ -265,17 +280,7 @@ pub fn starts(s: &[u8], w: &[u8]) -> bool
     true
 }
 
-// Whether s is w.
-pub fn is_word(s: &[u8], w: &[u8]) -> bool
-    ensures { λ r. ⌜ r ≡ rule.word (now (w .entry)) (now (s .entry)) ⌝ }
-{
-    if s.len() != w.len() {
-        return false;
-    }
-    starts(s, w)
-}
-
-// Whether s "holds a byte above 127" nowhere.
+// Whether s holds no "byte above 127".
 pub fn is_ascii(s: &[u8]) -> bool
     ensures { λ r. ⌜ r ≡ rule.every (λ b. leb b 127) (now (s .entry)) ⌝ }
 {

@@ -76,9 +76,11 @@ fn value_line(r: &mut Random, out: &mut Vec<u8>) {
     time_value(r, out);
     if r.one_in(4) {
         out.push(b'\t');
-        match r.below(4) {
+        match r.below(6) {
             0 => word(r, &["subsec"], out),
             1 => out.extend(b"+0 days"),
+            2 => word(r, &["utc", "localtime"], out),
+            3 => word(r, &["floor"], out),
             _ => modifier(r, out),
         }
     }
@@ -95,6 +97,10 @@ fn modifiers_line(r: &mut Random, out: &mut Vec<u8>) {
     for _ in 0..chain(r) {
         out.push(b'\t');
         modifier(r, out);
+    }
+    if r.one_in(50) {
+        // Refused by 5, unless something before it was refused by 1.
+        out.extend(b"\t1e99 days");
     }
 }
 
@@ -157,8 +163,17 @@ fn numbers_line(r: &mut Random, out: &mut Vec<u8>) {
             write!(out, " {}", r.pick(&["days", "hours", "seconds", "months"])).unwrap();
         }
         5 => {
-            spaced_number(r, out);
+            if r.one_in(2) {
+                julian_day(r, out);
+            } else {
+                spaced_number(r, out);
+            }
             out.push(b'\t');
+            if r.one_in(8) {
+                // Then the next one is not the first.
+                modifier(r, out);
+                out.push(b'\t');
+            }
             word(r, &["auto", "unixepoch", "julianday", "subsec"], out);
         }
         6 => {
@@ -276,7 +291,7 @@ fn plain_byte(r: &mut Random) -> u8 {
 /// A function and the tab after it, for strftime the format too.
 fn head(r: &mut Random, out: &mut Vec<u8>) {
     let names = ["date", "time", "datetime", "datetime", "julianday", "unixepoch"];
-    if r.one_in(5) {
+    if r.one_in(3) {
         out.extend(b"strftime\t%Y-%m-%d %H:%M:%f %j %w %s\t");
     } else {
         out.extend(r.pick(&names).bytes());

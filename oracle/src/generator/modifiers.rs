@@ -30,6 +30,7 @@ pub fn modifier(r: &mut Random, out: &mut Vec<u8>) {
                 out.extend(r.pick(&[" ", " ", " ", "  ", " \x0b"]).bytes());
                 modifier_time(r, out);
             }
+            floor(r, 4, out);
         }
         2 => {
             sign(r, out);
@@ -132,18 +133,37 @@ pub fn units(r: &mut Random, out: &mut Vec<u8>) {
     if r.one_in(40) {
         out.extend(r.pick(&[" ", "\r", "\x0b", " and more", "  ago", "\x1c"]).bytes());
     }
+    floor(r, if unit < 4 { 10 } else { 4 }, out);
+}
+
+/// What a month shift leaves past the month's end floor takes away, once in so
+/// many.
+pub fn floor(r: &mut Random, times: usize, out: &mut Vec<u8>) {
+    if r.one_in(times) {
+        out.extend(b"\tfloor");
+    }
 }
 
 /// A unit with a number at its limit, and mostly as much back.
 pub fn limited_units(r: &mut Random, out: &mut Vec<u8>) {
+    const LIMITS: [f64; 6] = [5373485.0, 1.2897e11, 7.7379e12, 4.6427e14, 176546.0, 14713.0];
+    const MS: [i64; 4] = [86400000, 3600000, 60000, 1000];
     let unit = r.below(6);
-    let limit = [5373485.0, 1.2897e11, 7.7379e12, 4.6427e14, 176546.0, 14713.0][unit];
     let (there, back) = r.pick(&[("+", "-"), ("-", "+"), ("", "-")]);
     out.extend(there.bytes());
-    near_number(r, limit, out);
+    near_number(r, LIMITS[unit], out);
     write!(out, " {}s", UNITS[unit]).unwrap();
-    if !r.one_in(5) {
-        write!(out, "\t{back}{} {}s", limit as i64 - r.between(1, 3), UNITS[unit]).unwrap();
+    match unit {
+        _ if r.one_in(5) => {}
+        // Months and years have left the range. Whether the number was refused is
+        // seen by one that is refused by another number.
+        4 | 5 => out.extend(b"\t1e99 days"),
+        _ => {
+            // Hours reach furthest, then minutes, then seconds.
+            let other = if unit == 0 { 0 } else { r.between(1, unit as i64) as usize };
+            let number = LIMITS[unit] as i64 * MS[unit] / MS[other] - r.between(1, 3);
+            write!(out, "\t{back}{number} {}s", UNITS[other]).unwrap();
+        }
     }
 }
 
@@ -171,7 +191,13 @@ pub fn from_before(r: &mut Random, out: &mut Vec<u8>) {
         out.push(b' ');
         good_time(r, out);
     }
-    if year < -4713 {
+    if year == -9999 && r.one_in(2) {
+        // Only from here the limits of months and years lie within the range.
+        let (limit, unit) = r.pick(&[(176546.0, "months"), (14713.0, "years")]);
+        out.extend(b"\t+");
+        near_number(r, limit, out);
+        write!(out, " {unit}").unwrap();
+    } else if year < -4713 {
         write!(out, "\t+{} years", -year - r.between(0, 4713)).unwrap();
     }
     for _ in 0..r.between(0, 2) {

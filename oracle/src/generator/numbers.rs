@@ -101,7 +101,7 @@ pub fn halfway(r: &mut Random, number: f64, out: &mut Vec<u8>) {
     let scale = 1023 + 53 - (bits >> 52);
     let whole = (odd >> scale).to_string();
     let places = 19 - whole.len() as u32;
-    let digits = (odd * 10u128.pow(places) >> scale) + u128::from(r.next() % 2);
+    let digits = ((odd * 10u128.pow(places)) >> scale) + u128::from(r.next() % 2);
     let digits = digits.to_string();
     let sign = if number < 0.0 { "-" } else { "" };
     write!(out, "{sign}{}.{}", &digits[..whole.len()], &digits[whole.len()..]).unwrap();

@@ -130,12 +130,12 @@ pub fn separator(r: &mut Random, out: &mut Vec<u8>) {
 }
 
 pub fn time(r: &mut Random, out: &mut Vec<u8>) {
-    if !r.one_in(25) {
+    if !r.one_in(15) {
         return good_time(r, out);
     }
-    let hour = r.pick(&[0, 23, 24, 24, 25, 99]);
-    let minute = r.pick(&[0, 0, 59, 60]);
-    let second = r.pick(&[0, 0, 59, 60]);
+    let hour = r.pick(&[0, 23, 24, 24, 24, 24, 25, 99]);
+    let minute = r.pick(&[0, 0, 0, 0, 59, 60]);
+    let second = r.pick(&[0, 0, 0, 0, 59, 60]);
     write!(out, "{hour:02}:{minute:02}:{second:02}").unwrap();
 }
 

@@ -9,7 +9,7 @@ use lib.Ieee.{Float}
 use lib.ListN.{drop}
 use Rattle.rules.specs.Basics.{Read, _or_}
 use Rattle.rules.specs.Decimal.{sign, namedForm, digitsForm, decimal}
-use Rattle.decimal.specs.Reads.{asRead}
+use Rattle.decimal.specs.AsRead.{asRead}
 use Rattle.decimal.specs.declared.Number.{Number}
 use Rattle.decimal.proofs.decimal.Statement.{statement}
 use Rattle.decimal.proofs.decimal.Tie as tie

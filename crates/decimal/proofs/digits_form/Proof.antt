@@ -11,7 +11,7 @@ use lib.Ieee.{Float}
 use lib.ListN.{length, drop}
 use Rattle.rules.specs.Basics.{Read, _>>=_}
 use Rattle.rules.specs.Decimal.{digitsForm, nearestTo}
-use Rattle.decimal.specs.Reads.{asExponent}
+use Rattle.decimal.specs.Held.{asExponent}
 use Rattle.decimal.specs.declared.Power.{Power}
 use Rattle.decimal.proofs.Limits.{scaled, held-down}
 use Rattle.decimal.proofs.Readers.{taken-small, digits-none, digits-some}

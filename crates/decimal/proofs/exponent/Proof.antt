@@ -7,7 +7,7 @@ use borrow.Author.Needs.{needs}
 use borrow.Author.Tests.{not-true, not-false}
 use Rattle.rules.specs.Basics.{got}
 use Rattle.rules.specs.Decimal.{run, exponent}
-use Rattle.decimal.specs.Reads.{heldExponent}
+use Rattle.decimal.specs.Held.{heldExponent}
 use Rattle.decimal.proofs.Readers.{magnitude, exponent-end, exponent-other, exponent-digits, magnitude-none, magnitude-more, magnitude-got}
 use Rattle.decimal.proofs.exponent.Statement.{statement}
 use Rattle.decimal.proofs.exponent.Tie as tie

@@ -1,7 +1,7 @@
--- The steps together: the pattern that they give is the nearest float's. Assumes nothing.
+-- The steps together: the pattern that they give is the nearest f64's. Assumes nothing.
 use mathlib.Core.Path.{_≡_, sym, ap, _∙_}
 use mathlib.Core.Bool.{Bool, false}
-use Prim.Native.Nat.{ℕ, _+_, _-_, _*_, _^_, _≤_, _<_}
+use Prim.Native.Nat.{ℕ, _+_, _-_, _*_, _^_, _≤_}
 use native.Mathlib.Nat.{le-of-eq, lt-of-lt-of-le, one-mul, zero-mul, mul-assoc, mul-right-comm, add-mul, mul-pos, mul-lt-mul-of-pos-right, one-le-pow}
 use native.Mathlib.Omega.{arith}
 use lib.Dec.{lit≤}
@@ -23,8 +23,8 @@ parts-below t s k a b c = omega arith
 all-below : (t s : ℕ) → t ≤ 63 → s ≤ 63 → s + t + (1074 - (t + s)) ≡ 1074
 all-below t s a b = omega arith
 
-pub below-is : (d n s k m t : ℕ) (st : Bool) → Led d n s → Divided n (5 ^ k) m t st → k ≤ 22 → m < 2 ^ 64 → ofBits binary64 ((1085 - (t + s + k)) * 2 ^ 52 + near11 m st) ≡ round binary64 false d (10 ^ k)
-below-is d n s k m t st l v K M =
+pub below-is : (d n s k m t : ℕ) (st : Bool) → Led d n s → Divided n (5 ^ k) m t st → k ≤ 22 → ofBits binary64 ((1085 - (t + s + k)) * 2 ^ 52 + near11 m st) ≡ round binary64 false d (10 ^ k)
+below-is d n s k m t st l v K =
     let z = 1074 - (t + s + k) in
     let y = 1074 - (t + s) in
     let r = v .rest in
@@ -40,7 +40,7 @@ below-is d n s k m t st l v K M =
     ap (λ (x : ℕ). ofBits binary64 (x * 2 ^ 52 + near11 m st)) (sym (field-below t s k (v .few) (l .few) K))
     ∙ pack-round d (10 ^ k) z m (r * 2 ^ y) st (one-le-pow k 10 (lit≤ tt))
     (lt-of-lt-of-le (mul-lt-mul-of-pos-right (v .small) (pow-pos y)) (le-of-eq (sym cz)))
-    e (v .full) M (small-below t s k) (λ f. mul-pos (v .left f) (pow-pos y)) (λ f. ap (λ (x : ℕ). x * 2 ^ y) (v .none f) ∙ zero-mul (2 ^ y))
+    e (v .full) (v .wide) (small-below t s k) (λ f. mul-pos (v .left f) (pow-pos y)) (λ f. ap (λ (x : ℕ). x * 2 ^ y) (v .none f) ∙ zero-mul (2 ^ y))
 
 field-above : (t s k : ℕ) → s ≤ 63 → 1074 + t + k - s + 11 ≡ 1085 + t + k - s
 field-above t s k a = omega arith
@@ -54,8 +54,8 @@ parts-above t s k a = omega arith
 all-above : (s k : ℕ) → s ≤ 63 → k + 1074 ≡ s + (1074 + k - s)
 all-above s k a = omega arith
 
-pub above-is : (d n s k w m t : ℕ) (st : Bool) → Led d n s → w ≡ n * 5 ^ k → Narrowed w m t st → k ≤ 22 → m < 2 ^ 64 → ofBits binary64 ((1085 + t + k - s) * 2 ^ 52 + near11 m st) ≡ round binary64 false (d * 10 ^ k) 1
-above-is d n s k w m t st l q v K M =
+pub above-is : (d n s k w m t : ℕ) (st : Bool) → Led d n s → w ≡ n * 5 ^ k → Narrowed w m t st → k ≤ 22 → ofBits binary64 ((1085 + t + k - s) * 2 ^ 52 + near11 m st) ≡ round binary64 false (d * 10 ^ k) 1
+above-is d n s k w m t st l q v K =
     let z = 1074 + t + k - s in
     let y = 1074 + k - s in
     let r = v .rest in
@@ -73,4 +73,4 @@ above-is d n s k w m t st l q v K M =
     ap (λ (x : ℕ). ofBits binary64 (x * 2 ^ 52 + near11 m st)) (sym (field-above t s k (l .few)))
     ∙ pack-round (d * 10 ^ k) 1 z m (r * 2 ^ y) st (pow-pos 0)
     (lt-of-lt-of-le (mul-lt-mul-of-pos-right (v .small) (pow-pos y)) (le-of-eq (sym cz)))
-    e (v .full) M (small-above t s k (v .few) K) (λ f. mul-pos (v .left f) (pow-pos y)) (λ f. ap (λ (x : ℕ). x * 2 ^ y) (v .none f) ∙ zero-mul (2 ^ y))
+    e (v .full) (v .wide) (small-above t s k (v .few) K) (λ f. mul-pos (v .left f) (pow-pos y)) (λ f. ap (λ (x : ℕ). x * 2 ^ y) (v .none f) ∙ zero-mul (2 ^ y))

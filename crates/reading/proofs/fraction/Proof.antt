@@ -12,8 +12,7 @@ use Rattle.rules.specs.Decimal.{run}
 use Rattle.rules.specs.Reading as rule
 use Rattle.rules.specs.Reading.{fractionOf, fractionIn}
 use Rattle.real.proofs.Literals.{nil}
-use Rattle.text.specs.Places.{begins}
-use Rattle.reading.proofs.Steps.{inside}
+use Rattle.reading.proofs.Steps.{stands-begins, begins, inside}
 use Rattle.reading.proofs.Fractions.{no-point, point-at, run-all, no-digits, some-digits}
 use Rattle.reading.proofs.fraction.Statement.{statement}
 use Rattle.reading.proofs.fraction.Tie as tie
@@ -22,11 +21,11 @@ has-requires : tie.Need-has-requires
 has-requires c κs = search needs
 
 returns : tie.Need-returns
-returns c = let s = now (c .before .before .before .args .s) in rw nil (sym (no-point (drop (c .before .before .before .args .at) s) (sym (c .before .has .ensures) ∙ not-true _ (c .if1 .taken))))
+returns c = let s = now (c .before .before .before .args .s) in rw nil (sym (no-point (drop (c .before .before .before .args .at) s) (sym (c .before .has .ensures ∙ stands-begins _ _ _) ∙ not-true _ (c .if1 .taken))))
 
 -- a point stands there
 here : (c : tie.Else1) → begins 46 (drop (c .before .before .before .args .at) (now (c .before .before .before .args .s))) ≡ true
-here c = sym (c .before .has .ensures) ∙ not-false _ (c .if1 .left)
+here c = sym (c .before .has .ensures ∙ stands-begins _ _ _) ∙ not-false _ (c .if1 .left)
 
 before-end : (c : tie.Else1) → c .before .before .before .args .at < length (now (c .before .before .before .args .s))
 before-end c = inside 46 (now (c .before .before .before .args .s)) (c .before .before .before .args .at) (here c)

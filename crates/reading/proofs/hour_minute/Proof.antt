@@ -6,8 +6,8 @@ use borrow.Author.Needs.{needs}
 use borrow.Author.Tests.{not-true, not-false}
 use denote.Ref.{now}
 use Rattle.rules.specs.Basics.{got, byte, digits}
-use Rattle.text.proofs.Numbers.{read-of, told-of}
-use Rattle.reading.proofs.Steps.{char-got, char-other, inside}
+use Rattle.text.proofs.Reading.{read-of, told-of}
+use Rattle.reading.proofs.Steps.{stands-begins, char-got, char-other, inside}
 use Rattle.reading.proofs.Zones.{five-bytes, no-hour, no-colon, no-minute, hour-and-minute}
 use Rattle.reading.proofs.hour_minute.Statement.{statement}
 use Rattle.reading.proofs.hour_minute.Tie as tie
@@ -38,14 +38,14 @@ hour : (c : tie.After-known-told) → let a = c .before .before .before .before 
 hour c = read-of _ _ _ _ (c .before .before .before .two-digits .ensures .0) (c .before .hour .given .1)
 
 returns-3 : tie.Need-returns-3
-returns-3 c = let s = now (c .before .before .before .before .before .before .before .before .before .args .s) in (sym (no-colon _ _ _ _ (hour (c .before .before)) (char-other ":" s (c .before .before .before .hour .given .0 .1 .0) _ (c .before .has .ensures) (not-true _ (c .if2 .taken)))), tt)
+returns-3 c = let s = now (c .before .before .before .before .before .before .before .before .before .args .s) in (sym (no-colon _ _ _ _ (hour (c .before .before)) (char-other ":" s (c .before .before .before .hour .given .0 .1 .0) _ (c .before .has .ensures ∙ stands-begins _ _ _) (not-true _ (c .if2 .taken)))), tt)
 
 -- the colon
 colon : (c : tie.Else2) → let a = c .before .before .before .before .before .before .before .before .before .args in let h = c .before .before .before .hour .given .0 in byte ":" (drop (h .1 .0) (now (a .s))) ≡ got (drop (h .1 .0 + 1) (now (a .s)))
-colon c = char-got ":" (now (c .before .before .before .before .before .before .before .before .before .args .s)) (c .before .before .before .hour .given .0 .1 .0) _ (c .before .has .ensures) (not-false _ (c .if2 .left))
+colon c = char-got ":" (now (c .before .before .before .before .before .before .before .before .before .args .s)) (c .before .before .before .hour .given .0 .1 .0) _ (c .before .has .ensures ∙ stands-begins _ _ _) (not-false _ (c .if2 .left))
 
 add-two-digits : tie.Need-add-two-digits
-add-two-digits c = let h = inside 58 (now (c .before .before .before .before .before .before .before .before .before .args .s)) (c .before .before .before .hour .given .0 .1 .0) (sym (c .before .has .ensures) ∙ not-false _ (c .if2 .left)) in omega arith
+add-two-digits c = let h = inside 58 (now (c .before .before .before .before .before .before .before .before .before .args .s)) (c .before .before .before .hour .given .0 .1 .0) (sym (c .before .has .ensures ∙ stands-begins _ _ _) ∙ not-false _ (c .if2 .left)) in omega arith
 
 two-digits-requires-2 : tie.Need-two-digits-requires-2
 two-digits-requires-2 c κs = search needs

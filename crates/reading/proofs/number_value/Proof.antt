@@ -3,7 +3,7 @@ use denote.Ref.{now}
 use Rattle.rules.specs.Basics.{Read, got, _or_}
 use Rattle.rules.specs.Decimal.{decimal}
 use Rattle.rules.specs.Moments.{Moment}
-use Rattle.decimal.specs.Reads.{asRead}
+use Rattle.decimal.specs.AsRead.{asRead}
 use Rattle.reading.specs.Readers.{subsecValue}
 use Rattle.reading.proofs.Steps.{read-as}
 use Rattle.reading.proofs.Values.{number, no-number, refused}

@@ -13,9 +13,8 @@ use Rattle.rules.specs.Floats.{number, _⊕_}
 use Rattle.rules.specs.Reading as rule
 use Rattle.real.specs.InMinute.{inMinute}
 use Rattle.real.proofs.Literals.{nil}
-use Rattle.text.specs.Places.{begins}
-use Rattle.text.proofs.Numbers.{read-of, told-of}
-use Rattle.reading.proofs.Steps.{inside}
+use Rattle.text.proofs.Reading.{read-of, told-of}
+use Rattle.reading.proofs.Steps.{stands-begins, begins, inside}
 use Rattle.reading.proofs.Fractions.{no-seconds, colon-at, not-digits, with-fraction, zero-minute, minute}
 use Rattle.reading.proofs.seconds.Statement.{statement}
 use Rattle.reading.proofs.seconds.Tie as tie
@@ -24,11 +23,11 @@ has-requires : tie.Need-has-requires
 has-requires c κs = search needs
 
 returns : tie.Need-returns
-returns c = let s = now (c .before .before .before .args .s) in (rw nil (sym (no-seconds (drop (c .before .before .before .args .at) s) (sym (c .before .has .ensures) ∙ not-true _ (c .if1 .taken)))), λ h. rw nil zero-minute)
+returns c = let s = now (c .before .before .before .args .s) in (rw nil (sym (no-seconds (drop (c .before .before .before .args .at) s) (sym (c .before .has .ensures ∙ stands-begins _ _ _) ∙ not-true _ (c .if1 .taken)))), λ h. rw nil zero-minute)
 
 -- a colon stands there
 here : (c : tie.Else1) → begins 58 (drop (c .before .before .before .args .at) (now (c .before .before .before .args .s))) ≡ true
-here c = sym (c .before .has .ensures) ∙ not-false _ (c .if1 .left)
+here c = sym (c .before .has .ensures ∙ stands-begins _ _ _) ∙ not-false _ (c .if1 .left)
 
 after : (c : tie.Else1) → rule.seconds (drop (c .before .before .before .args .at) (now (c .before .before .before .args .s))) ≡ rule.secondsIn (drop (c .before .before .before .args .at + 1) (now (c .before .before .before .args .s)))
 after c = colon-at (now (c .before .before .before .args .s)) (c .before .before .before .args .at) (here c)

@@ -5,8 +5,8 @@ use lib.ListN.{drop, length-drop}
 use borrow.Author.Tests.{not-true, not-false}
 use denote.Ref.{now}
 use Rattle.rules.specs.Basics.{got, byte, digits}
-use Rattle.text.proofs.Numbers.{read-of, told-of}
-use Rattle.reading.proofs.Steps.{char-got, char-other, inside}
+use Rattle.text.proofs.Reading.{read-of, told-of}
+use Rattle.reading.proofs.Steps.{stands-begins, char-got, char-other, inside}
 use Rattle.reading.proofs.Dates.{ten-bytes, no-year, no-dash, no-month, no-second, no-day, ymd}
 use borrow.Author.Needs.{needs}
 use Rattle.reading.proofs.year_month_day.Statement.{statement}
@@ -37,13 +37,13 @@ year : (c : tie.After-known-told) → let a = c .before .before .before .before 
 year c = read-of _ _ _ _ (c .before .before .before .four-digits .ensures .0) (c .before .year .given .1)
 
 returns-3 : tie.Need-returns-3
-returns-3 c = (sym (no-dash _ _ _ _ _ _ (year (c .before .before)) (char-other "-" (now (c .before .before .before .before .before .before .before .before .before .args .s)) (c .before .before .before .year .given .0 .1 .0) _ (c .before .has .ensures) (not-true _ (c .if2 .taken)))), tt)
+returns-3 c = (sym (no-dash _ _ _ _ _ _ (year (c .before .before)) (char-other "-" (now (c .before .before .before .before .before .before .before .before .before .args .s)) (c .before .before .before .year .given .0 .1 .0) _ (c .before .has .ensures ∙ stands-begins _ _ _) (not-true _ (c .if2 .taken)))), tt)
 
 dash : (c : tie.Else2) → let s = now (c .before .before .before .before .before .before .before .before .before .args .s) in let y = c .before .before .before .year .given .0 in byte "-" (drop (y .1 .0) s) ≡ got (drop (y .1 .0 + 1) s)
-dash c = char-got "-" (now (c .before .before .before .before .before .before .before .before .before .args .s)) (c .before .before .before .year .given .0 .1 .0) _ (c .before .has .ensures) (not-false _ (c .if2 .left))
+dash c = char-got "-" (now (c .before .before .before .before .before .before .before .before .before .args .s)) (c .before .before .before .year .given .0 .1 .0) _ (c .before .has .ensures ∙ stands-begins _ _ _) (not-false _ (c .if2 .left))
 
 add-two-digits : tie.Need-add-two-digits
-add-two-digits c = let h = inside 45 (now (c .before .before .before .before .before .before .before .before .before .args .s)) (c .before .before .before .year .given .0 .1 .0) (sym (c .before .has .ensures) ∙ not-false _ (c .if2 .left)) in omega arith
+add-two-digits c = let h = inside 45 (now (c .before .before .before .before .before .before .before .before .before .args .s)) (c .before .before .before .year .given .0 .1 .0) (sym (c .before .has .ensures ∙ stands-begins _ _ _) ∙ not-false _ (c .if2 .left)) in omega arith
 
 two-digits-requires : tie.Need-two-digits-requires
 two-digits-requires c κs = search needs
@@ -64,13 +64,13 @@ month : (c : tie.After-known-told2) → let a = c .before .before .before .befor
 month c = read-of _ _ _ _ (c .before .before .before .two-digits .ensures .0) (c .before .month .given .1)
 
 returns-5 : tie.Need-returns-5
-returns-5 c = (sym (no-second _ _ _ _ _ _ (year (c .before .before .before .before .before .before .before .before)) _ (dash (c .before .before .before .before .before .before)) _ _ (month (c .before .before)) (char-other "-" (now (c .before .before .before .before .before .before .before .before .before .before .before .before .before .before .before .args .s)) (c .before .before .before .month .given .0 .1 .0) _ (c .before .has2 .ensures) (not-true _ (c .if3 .taken)))), tt)
+returns-5 c = (sym (no-second _ _ _ _ _ _ (year (c .before .before .before .before .before .before .before .before)) _ (dash (c .before .before .before .before .before .before)) _ _ (month (c .before .before)) (char-other "-" (now (c .before .before .before .before .before .before .before .before .before .before .before .before .before .before .before .args .s)) (c .before .before .before .month .given .0 .1 .0) _ (c .before .has2 .ensures ∙ stands-begins _ _ _) (not-true _ (c .if3 .taken)))), tt)
 
 second : (c : tie.Else3) → let s = now (c .before .before .before .before .before .before .before .before .before .before .before .before .before .before .before .args .s) in let m = c .before .before .before .month .given .0 in byte "-" (drop (m .1 .0) s) ≡ got (drop (m .1 .0 + 1) s)
-second c = char-got "-" (now (c .before .before .before .before .before .before .before .before .before .before .before .before .before .before .before .args .s)) (c .before .before .before .month .given .0 .1 .0) _ (c .before .has2 .ensures) (not-false _ (c .if3 .left))
+second c = char-got "-" (now (c .before .before .before .before .before .before .before .before .before .before .before .before .before .before .before .args .s)) (c .before .before .before .month .given .0 .1 .0) _ (c .before .has2 .ensures ∙ stands-begins _ _ _) (not-false _ (c .if3 .left))
 
 add-two-digits-2 : tie.Need-add-two-digits-2
-add-two-digits-2 c = let h = inside 45 (now (c .before .before .before .before .before .before .before .before .before .before .before .before .before .before .before .args .s)) (c .before .before .before .month .given .0 .1 .0) (sym (c .before .has2 .ensures) ∙ not-false _ (c .if3 .left)) in omega arith
+add-two-digits-2 c = let h = inside 45 (now (c .before .before .before .before .before .before .before .before .before .before .before .before .before .before .before .args .s)) (c .before .before .before .month .given .0 .1 .0) (sym (c .before .has2 .ensures ∙ stands-begins _ _ _) ∙ not-false _ (c .if3 .left)) in omega arith
 
 two-digits-requires-2 : tie.Need-two-digits-requires-2
 two-digits-requires-2 c κs = search needs

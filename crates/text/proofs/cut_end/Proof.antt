@@ -1,3 +1,5 @@
+-- `text::cut_end` meets its contract. The loop's invariant: what is trimmed of the end of the text is what is trimmed of the part up to here.
+-- Assumes nothing.
 use Prim.Native.Nat.{_-_, _≤_}
 use mathlib.Core.Path.{_≡_, sym, _∙_}
 use native.Mathlib.Omega.{arith}
@@ -7,7 +9,7 @@ use borrow.Author.Tests.{not-true, not-false}
 use denote.Ref.{now}
 use Rattle.rules.specs.Basics.{trimEnd}
 use Rattle.text.specs.Places.{part, passes}
-use Rattle.text.proofs.Runs.{part-all, cut-more, cut-stop, cut-none}
+use Rattle.text.proofs.Runs.{part-all, cut-on, cut-stop, cut-none}
 use Rattle.text.proofs.cut_end.Statement.{statement}
 use Rattle.text.proofs.cut_end.Tie as tie
 
@@ -30,7 +32,10 @@ is-of-requires : tie.Need-is-of-requires Inv-loop μ-loop
 is-of-requires c κs = search needs
 
 returns : tie.Need-returns Inv-loop μ-loop
-returns c = let l = c .before .before .before .before .loop in ((l .inv .0, l .inv .1), sym (l .inv .2 ∙ cut-stop _ _ _ _ (c .before .before .before .loop-test .taken) (l .inv .1) (sym (c .before .is-of .ensures) ∙ not-true _ (c .if1 .taken))))
+returns c =
+    let l = c .before .before .before .before .loop in
+    let e = sym (c .before .is-of .ensures) ∙ not-true _ (c .if1 .taken) in
+    (sym (l .inv .2 ∙ cut-stop _ _ _ _ (c .before .before .before .loop-test .taken) (l .inv .1) e), (l .inv .0, l .inv .1))
 
 sub-end : tie.Need-sub-end Inv-loop μ-loop
 sub-end c = search needs
@@ -39,10 +44,15 @@ loop-less : tie.Need-loop-less Inv-loop μ-loop
 loop-less c = search needs
 
 loop-again : tie.Need-loop-again Inv-loop μ-loop
-loop-again c = let l = c .before .before .before .before .loop in (omega arith, omega arith, l .inv .2 ∙ cut-more _ _ _ _ (c .before .before .before .loop-test .taken) (l .inv .1) (sym (c .before .is-of .ensures) ∙ not-false _ (c .if1 .left)))
+loop-again c =
+    let l = c .before .before .before .before .loop in
+    let e = sym (c .before .is-of .ensures) ∙ not-false _ (c .if1 .left) in
+    (omega arith, omega arith, l .inv .2 ∙ cut-on _ _ _ _ (c .before .before .before .loop-test .taken) (l .inv .1) e)
 
 returns-2 : tie.Need-returns-2 Inv-loop μ-loop
-returns-2 c = let l = c .before .loop in ((l .inv .0, l .inv .1), sym (l .inv .2 ∙ cut-none _ _ _ _ (c .loop-test .left)))
+returns-2 c =
+    let l = c .before .loop in
+    (sym (l .inv .2 ∙ cut-none _ _ _ _ (c .loop-test .left)), (l .inv .0, l .inv .1))
 
 pub cut-end-spec : {M : Type 1} → statement M
 cut-end-spec =

@@ -1,3 +1,4 @@
+-- `text::is_ascii` meets its contract. The loop's invariant: the answer is that of the bytes from here on. Assumes nothing.
 use Prim.Native.Nat.{_-_}
 use mathlib.Core.Path.{_≡_, refl, sym, _∙_}
 use lib.Dec.{leb}

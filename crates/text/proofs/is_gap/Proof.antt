@@ -1,5 +1,6 @@
+-- `text::is_gap` meets its contract. Assumes nothing.
 use borrow.Author.Needs.{needs}
-use Rattle.text.proofs.Bytes.{eqb-flip}
+use Rattle.text.proofs.Tests.{eqb-flip}
 use Rattle.text.proofs.is_gap.Statement.{statement}
 use Rattle.text.proofs.is_gap.Tie as tie
 

@@ -1,3 +1,4 @@
+-- `text::is_of` meets its contract. Assumes nothing.
 use borrow.Author.Needs.{needs}
 use Rattle.text.proofs.is_of.Statement.{statement}
 use Rattle.text.proofs.is_of.Tie as tie

@@ -1,3 +1,4 @@
+-- `text::is_space` meets its contract: the `match` is made of ranges. Assumes nothing.
 use mathlib.Core.Path.{refl, sym}
 use native.Mathlib.Omega.{arith}
 use Rattle.text.proofs.Bytes.{not-space, space-two}

@@ -1,3 +1,4 @@
+-- `text::is_wide` meets its contract. Assumes nothing.
 use borrow.Author.Needs.{needs}
 use Rattle.text.proofs.is_wide.Statement.{statement}
 use Rattle.text.proofs.is_wide.Tie as tie

@@ -1,3 +1,4 @@
+-- `text::limit` meets its contract. Assumes nothing.
 use borrow.Author.Tests.{le-leb, lt-leb}
 use Rattle.text.proofs.limit.Statement.{statement}
 use Rattle.text.proofs.limit.Tie as tie

@@ -1,3 +1,4 @@
+-- `text::pair` meets its contract. Assumes nothing.
 use Prim.Native.Nat.{_+_}
 use mathlib.Core.Path.{sym, _∙_}
 use native.Mathlib.Omega.{arith}
@@ -5,7 +6,7 @@ use borrow.Author.Tests.{not-true, not-false}
 use borrow.Author.Needs.{needs}
 use denote.Ref.{now}
 use Rattle.text.proofs.Bytes.{digit-bounds}
-use Rattle.text.proofs.Numbers.{digit-other, digit-more, two-at}
+use Rattle.text.proofs.Digits.{digit-stop, digit-on, two-at}
 use Rattle.text.proofs.pair.Statement.{statement}
 use Rattle.text.proofs.pair.Tie as tie
 
@@ -16,7 +17,10 @@ is-digit-requires : tie.Need-is-digit-requires
 is-digit-requires c κs = search needs
 
 returns : tie.Need-returns
-returns c = let a = c .before .before .before .before .args in (sym (digit-other 1 0 (now (a .s)) (a .at) (omega arith) (sym (c .before .is-digit .ensures) ∙ not-true _ (c .if1 .taken))), tt)
+returns c =
+    let a = c .before .before .before .before .args in
+    let d = sym (c .before .is-digit .ensures) ∙ not-true _ (c .if1 .taken) in
+    (sym (digit-stop 1 0 (now (a .s)) (a .at) (omega arith) d), tt)
 
 add-ones : tie.Need-add-ones
 add-ones c = search needs
@@ -28,7 +32,11 @@ is-digit-requires-2 : tie.Need-is-digit-requires-2
 is-digit-requires-2 c κs = search needs
 
 returns-2 : tie.Need-returns-2
-returns-2 c = let a = c .before .before .before .before .before .before .before .args in (sym (digit-more 1 0 (now (a .s)) (a .at) (omega arith) (sym (c .before .before .before .before .is-digit .ensures) ∙ not-false _ (c .before .before .before .if1 .left)) ∙ digit-other 0 _ (now (a .s)) (a .at + 1) (omega arith) (sym (c .before .is-digit2 .ensures) ∙ not-true _ (c .if2 .taken))), tt)
+returns-2 c =
+    let a = c .before .before .before .before .before .before .before .args in
+    let d = sym (c .before .before .before .before .is-digit .ensures) ∙ not-false _ (c .before .before .before .if1 .left) in
+    let e = sym (c .before .is-digit2 .ensures) ∙ not-true _ (c .if2 .taken) in
+    (sym (digit-on 1 0 (now (a .s)) (a .at) (omega arith) d ∙ digit-stop 0 _ (now (a .s)) (a .at + 1) (omega arith) e), tt)
 
 value-requires : tie.Need-value-requires
 value-requires c κs = digit-bounds _ (sym (c .before .before .before .before .is-digit .ensures) ∙ not-false _ (c .before .before .before .if1 .left))
@@ -46,7 +54,11 @@ add-t9 : tie.Need-add-t9
 add-t9 c = search needs
 
 returns-3 : tie.Need-returns-3
-returns-3 c = let a = c .before .before .before .before .before .before .before .before .before .args in (rw (c .before .value .ensures .0, c .value2 .ensures .0) (sym (two-at (now (a .s)) (a .at) (omega arith) (sym (c .before .before .before .before .before .before .is-digit .ensures) ∙ not-false _ (c .before .before .before .before .before .if1 .left)) (sym (c .before .before .before .is-digit2 .ensures) ∙ not-false _ (c .before .before .if2 .left)))), record { low = search needs; high = search needs; place = search needs; inside = search needs })
+returns-3 c =
+    let a = c .before .before .before .before .before .before .before .before .before .args in
+    let d = sym (c .before .before .before .before .before .before .is-digit .ensures) ∙ not-false _ (c .before .before .before .before .before .if1 .left) in
+    let e = sym (c .before .before .before .is-digit2 .ensures) ∙ not-false _ (c .before .before .if2 .left) in
+    (rw (c .before .value .ensures .0, c .value2 .ensures .0) (sym (two-at (now (a .s)) (a .at) (omega arith) d e)), omega arith)
 
 pub pair-spec : {M : Type 1} → statement M
 pair-spec =

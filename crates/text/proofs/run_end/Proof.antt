@@ -1,3 +1,4 @@
+-- `text::run_end` meets its contract. The loop's invariant: the run ends where the run that begins here ends. Assumes nothing.
 use Prim.Native.Nat.{_-_}
 use mathlib.Core.Path.{_≡_, refl, sym, _∙_}
 use lib.ListN.{length}
@@ -24,7 +25,9 @@ is-of-requires : tie.Need-is-of-requires Inv-loop μ-loop
 is-of-requires c κs = search needs
 
 returns : tie.Need-returns Inv-loop μ-loop
-returns c = passed _ _ _ _ (c .before .before .before .before .loop .inv ∙ end-stop _ _ _ (c .before .before .before .loop-test .taken) (sym (c .before .is-of .ensures) ∙ not-true _ (c .if1 .taken)))
+returns c =
+    let e = sym (c .before .is-of .ensures) ∙ not-true _ (c .if1 .taken) in
+    passed _ _ _ _ (c .before .before .before .before .loop .inv ∙ end-stop _ _ _ (c .before .before .before .loop-test .taken) e)
 
 add-i : tie.Need-add-i Inv-loop μ-loop
 add-i c = search needs
@@ -33,7 +36,9 @@ loop-less : tie.Need-loop-less Inv-loop μ-loop
 loop-less c = search needs
 
 loop-again : tie.Need-loop-again Inv-loop μ-loop
-loop-again c = c .before .before .before .before .loop .inv ∙ end-on _ _ _ (c .before .before .before .loop-test .taken) (sym (c .before .is-of .ensures) ∙ not-false _ (c .if1 .left))
+loop-again c =
+    let e = sym (c .before .is-of .ensures) ∙ not-false _ (c .if1 .left) in
+    c .before .before .before .before .loop .inv ∙ end-on _ _ _ (c .before .before .before .loop-test .taken) e
 
 returns-2 : tie.Need-returns-2 Inv-loop μ-loop
 returns-2 c = passed _ _ _ _ (c .before .loop .inv ∙ end-past _ _ _ (c .loop-test .left))

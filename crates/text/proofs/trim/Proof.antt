@@ -1,5 +1,5 @@
+-- `text::trim` meets its contract. Assumes nothing.
 use mathlib.Core.Path.{ap, _∙_}
-use native.Mathlib.Omega.{arith}
 use borrow.Author.Needs.{needs}
 use Rattle.rules.specs.Basics.{trimEnd, trim}
 use Rattle.text.specs.Places.{passes}
@@ -10,7 +10,7 @@ run-end-requires : tie.Need-run-end-requires
 run-end-requires c κs = search needs
 
 cut-end-requires : tie.Need-cut-end-requires
-cut-end-requires c κs = c .run-end .ensures .inside (omega arith)
+cut-end-requires c κs = search needs
 
 sub-result : tie.Need-sub-result
 sub-result c = search needs
@@ -23,7 +23,8 @@ part-result-end c = search needs
 
 returns : tie.Need-returns
 unfolding trim
-returns c = c .before .cut-end .ensures .1 ∙ ap (trimEnd (passes (c .before .before .before .before .args .kind))) (c .before .before .run-end .ensures .rest)
+returns c =
+    c .before .cut-end .ensures .0 ∙ ap (trimEnd (passes (c .before .before .before .before .args .kind))) (c .before .before .run-end .ensures .rest)
 
 pub trim-spec : {M : Type 1} → statement M
 trim-spec =

@@ -1,9 +1,11 @@
+-- `text::two_digits` meets its contract. Assumes nothing.
 use mathlib.Core.Path.{sym}
 use native.Mathlib.Omega.{arith}
 use lib.ListN.{drop, length-drop}
 use borrow.Author.Needs.{needs}
 use denote.Ref.{now}
-use Rattle.text.proofs.Numbers.{digits-short, digits-other, read-of, told-of, limited-reads}
+use Rattle.text.proofs.Digits.{digits-short, digits-other, limited-reads}
+use Rattle.text.proofs.Reading.{read-of, told-of}
 use Rattle.text.proofs.two_digits.Statement.{statement}
 use Rattle.text.proofs.two_digits.Tie as tie
 
@@ -11,7 +13,9 @@ left-requires : tie.Need-left-requires
 left-requires c κs = search needs
 
 returns : tie.Need-returns
-returns c = let a = c .before .before .before .args in (sym (digits-short 2 (a .lo) (a .hi) (drop (a .at) (now (a .s))) (simp length-drop (omega arith))), tt)
+returns c =
+    let a = c .before .before .before .args in
+    (sym (digits-short 2 (a .lo) (a .hi) (drop (a .at) (now (a .s))) (simp length-drop (omega arith))), tt)
 
 pair-requires : tie.Need-pair-requires
 pair-requires c κs = search needs
@@ -29,7 +33,10 @@ limit-requires : tie.Need-limit-requires
 limit-requires c κs = search needs
 
 returns-3 : tie.Need-returns-3
-returns-3 c = let p = told-of (c .before .before .before .before .pair .ensures .1) (c .before .before .v .given .1) in limited-reads 2 _ _ _ _ _ _ _ _ (c .limit .ensures) (read-of _ _ _ _ (c .before .before .before .before .pair .ensures .0) (c .before .before .v .given .1)) (p .place) (p .inside)
+returns-3 c =
+    let h = read-of _ _ _ _ (c .before .before .before .before .pair .ensures .0) (c .before .before .v .given .1) in
+    let p = told-of (c .before .before .before .before .pair .ensures .1) (c .before .before .v .given .1) in
+    limited-reads 2 _ _ _ _ _ _ _ _ (c .limit .ensures) h (p .place) (p .inside)
 
 pub two-digits-spec : {M : Type 1} → statement M
 two-digits-spec =

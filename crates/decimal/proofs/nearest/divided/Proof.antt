@@ -21,7 +21,7 @@ quotient-requires c κs =
     let k = c .before .before .args .k in (
       c .before .lead .ensures .full,
       subst (λ (x : ℕ). 0 < x) (sym (c .fives .ensures)) (one-le-pow k 5 (lit≤ tt)),
-      subst (λ (x : ℕ). x ≤ 2 ^ 62) (sym (c .fives .ensures)) (le-trans (five-le k 22 (c .before .before .pre .1)) (lit≤ tt)),
+      subst (λ (x : ℕ). x ≤ 2 ^ 52) (sym (c .fives .ensures)) (le-trans (five-le k (c .before .before .pre .1)) (lit≤ tt)),
     )
 
 add-pack : tie.Need-add-pack
@@ -46,7 +46,7 @@ returns c =
     c .pack .ensures
     ∙ below-is (a .d) (l .lead .result .n) (l .lead .result .s) (a .k) (v .m) (v .t) (v .sticky) (l .lead .ensures)
     (subst (λ (x : ℕ). Divided (l .lead .result .n) x (v .m) (v .t) (v .sticky)) (f .fives .ensures) (q .quotient .ensures))
-    (l .before .pre .1) (q .quotient .ensures .wide)
+    (l .before .pre .1)
 
 pub divided-spec : {M : Type 1} → statement M
 divided-spec =

@@ -17,7 +17,7 @@ loop-holds : tie.Need-loop-holds Inv-loop μ-loop
 loop-holds c = (refl, omega arith)
 
 mul-f : tie.Need-mul-f Inv-loop μ-loop
-mul-f c = omega (arith, c .before .loop .inv .0, five-le (c .before .loop .i) 22 (omega arith))
+mul-f c = omega (arith, c .before .loop .inv .0, five-le (c .before .loop .i) (omega arith))
 
 add-i : tie.Need-add-i Inv-loop μ-loop
 add-i c = omega arith

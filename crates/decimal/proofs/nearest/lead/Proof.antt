@@ -1,43 +1,27 @@
 -- `decimal::nearest::lead` meets its contract. Assumes nothing.
-use mathlib.Core.Path.{_≡_, sym}
-use Prim.Native.Nat.{_-_, _*_, _^_, _≤_, _<_}
-use native.Mathlib.Nat.{mul-one}
-use native.Mathlib.Omega.{arith}
-use Rattle.decimal.proofs.nearest.Powers.{pow-step, double-is, few-of}
+use mathlib.Core.Path.{_≡_, ap}
+use Prim.Native.Nat.{ℕ, _*_, _^_}
+use native.Mathlib.Nat.{le-of-suc-le-suc}
+use borrow.Author.Needs.{needs}
 use Rattle.decimal.proofs.nearest.lead.Statement.{statement}
 use Rattle.decimal.proofs.nearest.lead.Tie as tie
 
-abbrev Inv-loop : tie.InvT-loop
-Inv-loop d n₀ s₀ n s = (n ≡ d * 2 ^ s) × (2 ^ s ≤ n) × (s ≤ 63)
+zeros-requires : tie.Need-zeros-requires
+zeros-requires c κs = search needs
 
-abbrev μ-loop : tie.MeasureT-loop
-μ-loop d n₀ s₀ n s = 63 - s
+two-to-requires : tie.Need-two-to-requires
+two-to-requires c κs = search needs
 
-loop-holds : tie.Need-loop-holds Inv-loop μ-loop
-loop-holds c = (sym (mul-one (c .args .d)), c .pre, omega arith)
+is : (c : tie.After-two-to) → let d = c .before .before .args .d in d * c .two-to .result ≡ d * 2 ^ c .before .zeros .result
+is c = let d = c .before .before .args .d in ap (λ (x : ℕ). d * x) (c .two-to .ensures)
 
-short : (c : tie.In-loop Inv-loop μ-loop) → c .before .loop .s < 63
-short c = few-of (c .before .loop .s) (c .before .loop .n) 63 (c .before .loop .inv .1) (c .loop-test .taken)
+mul-t4 : tie.Need-mul-t4
+mul-t4 c = record { fits = rw (is c) (c .before .zeros .ensures .wide) }
 
-mul-n : tie.Need-mul-n Inv-loop μ-loop
-mul-n c = omega arith
-
-add-s : tie.Need-add-s Inv-loop μ-loop
-add-s c = omega (arith, short c)
-
-loop-less : tie.Need-loop-less Inv-loop μ-loop
-loop-less c = omega (arith, short c)
-
-loop-again : tie.Need-loop-again Inv-loop μ-loop
-loop-again c =
-    let l = c .before .loop in
-    (double-is (c .before .before .args .d) (l .s) (l .n) (l .inv .0), omega (arith, pow-step (l .s), l .inv .1), omega (arith, short c))
-
-returns : tie.Need-returns Inv-loop μ-loop
+returns : tie.Need-returns
 returns c =
-    let l = c .before .loop in
-    record { is = l .inv .0; full = c .loop-test .left; few = l .inv .2 }
+    let z = c .before .zeros .ensures in
+    record { is = is c; full = rw (is c) (z .full); wide = rw (is c) (z .wide); few = le-of-suc-le-suc (z .few) }
 
 pub lead-spec : {M : Type 1} → statement M
-lead-spec =
-    tie.close (tie.spec Inv-loop μ-loop loop-holds mul-n add-s loop-less loop-again returns)
+lead-spec = tie.close (tie.spec zeros-requires two-to-requires mul-t4 returns)

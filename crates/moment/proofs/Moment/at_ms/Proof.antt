@@ -6,7 +6,8 @@ use borrow.Author.Needs.{needs}
 use Rattle.rules.specs.Calendar.{instant}
 use Rattle.rules.specs.Moments.{clear, setRaw, counted}
 use Rattle.moment.specs.Held.{held}
-use Rattle.moment.proofs.Bounds.{filled, at-keeps}
+use Rattle.moment.proofs.Bounds.{at-kept}
+use Rattle.moment.proofs.Chains.{filled}
 use Rattle.moment.proofs.Moment.at_ms.Statement.{statement}
 use Rattle.moment.proofs.Moment.at_ms.Tie as tie
 
@@ -23,7 +24,7 @@ returns : tie.Need-returns
 returns c =
     let d = c .before .before in
     let p = held (d .args .self) in
-    filled _ (at-keeps (d .args .r) (d .pre .1)) _ _ (d .pre .0) (c .clear .ensures .is ∙ ap (λ (t : ℕ). clear (setRaw (counted p (instant t)) false)) (c .before .nearest-ms .ensures))
+    filled _ (at-kept p (d .args .r) (d .pre .1)) (d .pre .0) (c .clear .ensures .is ∙ ap (λ (t : ℕ). clear (setRaw (counted p (instant t)) false)) (c .before .nearest-ms .ensures))
 
 pub at-ms-spec : {M : Type 1} → statement M
 at-ms-spec = tie.close (tie.spec nearest-ms-requires add-self clear-requires returns)

@@ -1,15 +1,13 @@
 -- `moment::Moment::auto` meets its contract.
-use mathlib.Core.Path.{sym, ap, _∙_, subst}
+use mathlib.Core.Path.{sym, ap, _∙_}
 use lib.Ieee.{Float}
 use borrow.Author.Needs.{needs}
 use borrow.Author.Tests.{not-true, not-false}
-use Prim.Native.Nat.{ℕ, _≤_}
 use native.Mathlib.Omega.{arith}
-use Rattle.rules.specs.Modifiers.{atMs, nearestMs, auto}
+use Rattle.rules.specs.Modifiers.{atMs, nearestMs}
 use Rattle.real.proofs.Epoch.{auto-ms}
 use Rattle.moment.specs.Held.{held}
-use Rattle.moment.proofs.Bounds.{same}
-use Rattle.moment.proofs.Chains.{filled-as}
+use Rattle.moment.proofs.Chains.{same, filled-as}
 use Rattle.moment.proofs.Modifiers.{auto-known, auto-day, auto-out, auto-in}
 use Rattle.moment.proofs.Moment.auto.Statement.{statement}
 use Rattle.moment.proofs.Moment.auto.Tie as tie

@@ -1,9 +1,7 @@
 -- `moment::Moment::blank` meets its contract.
-use mathlib.Core.Path.{sym, subst}
 use borrow.Author.Needs.{needs}
-use Rattle.rules.specs.Moments as rule
-use Rattle.moment.specs.Ranges.{After}
 use Rattle.moment.proofs.Bounds.{after-blank}
+use Rattle.moment.proofs.Chains.{made}
 use Rattle.moment.proofs.Moment.blank.Statement.{statement}
 use Rattle.moment.proofs.Moment.blank.Tie as tie
 
@@ -11,7 +9,7 @@ unknown-requires : tie.Need-unknown-requires
 unknown-requires c κs = search needs
 
 returns : tie.Need-returns
-returns c = (c .unknown .ensures, subst (λ (p : rule.Moment). After 0 p) (sym (c .unknown .ensures)) (after-blank 0))
+returns c = made after-blank (c .unknown .ensures)
 
 pub blank-spec : {M : Type 1} → statement M
 blank-spec = tie.close (tie.spec unknown-requires returns)

@@ -1,13 +1,13 @@
 -- `moment::Moment::by_length` meets its contract.
-use mathlib.Core.Path.{_≡_, sym, ap, _∙_}
+use mathlib.Core.Path.{sym, ap, _∙_}
 use native.Mathlib.Omega.{arith}
 use lib.IntN.{ℤ, natAbs}
 use borrow.Author.Needs.{needs}
 use mir.Syntax.{w64}
 use mir.ValLaws.{toZ-ofZ}
-use Rattle.rules.specs.Moments.{clear, moved, countMs, setOver}
+use Rattle.rules.specs.Moments.{moved, setOver}
 use Rattle.moment.specs.Held.{held}
-use Rattle.moment.specs.Steps.{byLength}
+use Rattle.moment.specs.Steps.{lengthOn}
 use Rattle.moment.proofs.Chains.{then-move, move-fill, moved-as}
 use Rattle.moment.proofs.Modifiers.{step}
 use Rattle.moment.proofs.Moment.by_length.Statement.{statement}
@@ -33,7 +33,7 @@ returns c =
     let w = q .before .way-of in
     let d = q .before .before in
     let p = held (d .args .self) in
-    moved-as (ap (λ (z : ℤ). byLength z p) (sym (sym (toZ-ofZ w64 _ (d .fits .ms)) ∙ w .ensures .0)))
+    moved-as (ap (λ (z : ℤ). lengthOn z p) (sym (sym (toZ-ofZ w64 _ (d .fits .ms)) ∙ w .ensures .0)))
     (move-fill (λ p. setOver p 0) (then-move (step (w .result .minus) (w .result .size)) (q .count-ms .ensures) (c .before .moved .ensures)) (c .not-over .ensures))
 
 pub by-length-spec : {M : Type 1} → statement M

@@ -1,7 +1,7 @@
 -- `moment::Moment::by_months` meets its contract.
 use mathlib.Core.Bool.{false}
-use mathlib.Core.Path.{_≡_, refl, sym, ap, _∙_, subst}
-use Prim.Native.Nat.{ℕ, _*_, _≤_, _<_, _^_, _-_, _+_}
+use mathlib.Core.Path.{_≡_, sym, ap, _∙_, subst}
+use Prim.Native.Nat.{_*_, _≤_}
 use native.Mathlib.Omega.{arith}
 use lib.IntN.{ℤ, pos, natAbs, _*ℤ_}
 use borrow.Author.Needs.{needs}
@@ -13,7 +13,6 @@ use Rattle.rules.specs.Moments.{Moment, clear, moved, countMs, fill, pastEnd, s
 use Rattle.rules.specs.Modifiers.{signed, fractionMs}
 use Rattle.moment.specs.Held.{held}
 use Rattle.moment.specs.Ranges.{ReadYear}
-use Rattle.moment.specs.Steps.{byMonths}
 use Rattle.moment.proofs.Bounds.{fill-year}
 use Rattle.moment.proofs.Chains.{fresh-movable, fresh-move, moved-as}
 use Rattle.moment.proofs.Modifiers.{step, shift-times}

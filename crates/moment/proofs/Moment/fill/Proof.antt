@@ -1,8 +1,7 @@
 -- `moment::Moment::fill` meets its contract.
-use mathlib.Core.Path.{ap, _∙_}
 use borrow.Author.Needs.{needs}
 use Rattle.rules.specs.Moments.{fillTime, fill}
-use Rattle.moment.proofs.Bounds.{filled, fill-keeps}
+use Rattle.moment.proofs.Chains.{then-fill}
 use Rattle.moment.proofs.Moment.fill.Statement.{statement}
 use Rattle.moment.proofs.Moment.fill.Tie as tie
 
@@ -14,7 +13,7 @@ fill-time-requires c κs = search needs
 
 returns : tie.Need-returns
 unfolding fill
-returns c = filled fill fill-keeps _ _ (c .before .before .pre) (c .fill-time .ensures .is ∙ ap fillTime (c .before .fill-date .ensures .is))
+returns c = then-fill fillTime (c .before .fill-date .ensures) (c .fill-time .ensures)
 
 pub fill-spec : {M : Type 1} → statement M
 fill-spec = tie.close (tie.spec fill-date-requires fill-time-requires returns)

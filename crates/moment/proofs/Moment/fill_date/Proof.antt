@@ -2,16 +2,17 @@
 use mathlib.Core.Path.{sym, ap, _∙_}
 use borrow.Author.Needs.{needs}
 use borrow.Author.Tests.{not-true, not-false}
-use Rattle.rules.specs.Moments.{fillDate, onDate}
+use Rattle.rules.specs.Moments.{onDate}
 use Rattle.rules.specs.declared.Ymd.{Ymd}
 use Rattle.moment.specs.Held.{held}
-use Rattle.moment.proofs.Bounds.{filled, fill-date-keeps}
+use Rattle.moment.proofs.Bounds.{fill-date-kept}
+use Rattle.moment.proofs.Chains.{filled}
 use Rattle.moment.proofs.Steps.{date-stands, date-unknown, date-filled, date-fails, in-range, before-range, after-range}
 use Rattle.moment.proofs.Moment.fill_date.Statement.{statement}
 use Rattle.moment.proofs.Moment.fill_date.Tie as tie
 
 returns : tie.Need-returns
-returns c = let d = c .before in filled fillDate fill-date-keeps _ _ (d .pre) (sym (date-stands (held (d .args .self)) (c .if1 .taken)))
+returns c = let d = c .before in filled _ (fill-date-kept (held (d .args .self))) (d .pre) (sym (date-stands (held (d .args .self)) (c .if1 .taken)))
 
 on-date-requires : tie.Need-on-date-requires
 on-date-requires c κs = search needs
@@ -20,7 +21,7 @@ returns-2 : tie.Need-returns-2
 returns-2 c =
     let b = c .before .before .before in
     let p = held (b .before .args .self) in
-    filled fillDate fill-date-keeps _ _ (b .before .pre) (c .on-date .ensures .is ∙ sym (date-unknown p (b .if1 .left) (not-true (p .counted) (c .before .if2 .taken))))
+    filled _ (fill-date-kept p) (b .before .pre) (c .on-date .ensures .is ∙ sym (date-unknown p (b .if1 .left) (not-true (p .counted) (c .before .if2 .taken))))
 
 failure-requires : tie.Need-failure-requires
 failure-requires c κs = search needs
@@ -29,7 +30,7 @@ returns-3 : tie.Need-returns-3
 returns-3 c =
     let b = c .before .before .before .before in
     let p = held (b .before .args .self) in
-    filled fillDate fill-date-keeps _ _ (b .before .pre) (c .failure .ensures ∙ sym (date-fails p (b .if1 .left) (not-false (p .counted) (c .before .before .if2 .left)) (before-range (p .ms) (c .before .if3 .taken))))
+    filled _ (fill-date-kept p) (b .before .pre) (c .failure .ensures ∙ sym (date-fails p (b .if1 .left) (not-false (p .counted) (c .before .before .if2 .left)) (before-range (p .ms) (c .before .if3 .taken))))
 
 failure-requires-2 : tie.Need-failure-requires-2
 failure-requires-2 c κs = search needs
@@ -38,7 +39,7 @@ returns-4 : tie.Need-returns-4
 returns-4 c =
     let b = c .before .before .before .before .before in
     let p = held (b .before .args .self) in
-    filled fillDate fill-date-keeps _ _ (b .before .pre) (c .failure2 .ensures ∙ sym (date-fails p (b .if1 .left) (not-false (p .counted) (c .before .before .before .if2 .left)) (after-range (p .ms) (c .before .if4 .taken))))
+    filled _ (fill-date-kept p) (b .before .pre) (c .failure2 .ensures ∙ sym (date-fails p (b .if1 .left) (not-false (p .counted) (c .before .before .before .if2 .left)) (after-range (p .ms) (c .before .if4 .taken))))
 
 civil-requires : tie.Need-civil-requires
 civil-requires c κs = search needs
@@ -50,7 +51,7 @@ returns-5 : tie.Need-returns-5
 returns-5 c =
     let b = c .before .before .before .before .before .before in
     let p = held (b .before .args .self) in
-    filled fillDate fill-date-keeps _ _ (b .before .pre)
+    filled _ (fill-date-kept p) (b .before .pre)
     (c .on-date2 .ensures .is
     ∙ ap (λ (d : Ymd). onDate p d) (c .before .civil .ensures .0)
     ∙ sym (date-filled p (b .if1 .left) (not-false (p .counted) (c .before .before .before .before .if2 .left)) (in-range (p .ms) (c .before .before .before .if3 .left) (c .before .before .if4 .left))))

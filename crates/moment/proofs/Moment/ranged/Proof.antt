@@ -1,10 +1,8 @@
 -- `moment::Moment::ranged` meets its contract.
-use mathlib.Core.Bool.{Bool, false}
-use mathlib.Core.Path.{_≡_, sym, ap, _∙_}
-use Prim.Native.Nat.{ℕ}
+use mathlib.Core.Path.{sym, ap, _∙_}
 use borrow.Author.Needs.{needs}
 use Rattle.rules.specs.Calendar.{inRange}
-use Rattle.rules.specs.Moments.{Moment, countMs}
+use Rattle.rules.specs.Moments.{Moment}
 use Rattle.moment.specs.Held.{held}
 use Rattle.moment.proofs.Chains.{answered, refused}
 use Rattle.moment.proofs.Modifiers.{counted-or-failed, range-failed, range-out, range-in}

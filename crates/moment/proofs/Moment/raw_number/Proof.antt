@@ -7,7 +7,8 @@ use borrow.Author.Needs.{needs}
 use borrow.Author.Tests.{not-true, not-false}
 use Rattle.rules.specs.Calendar.{instant}
 use Rattle.rules.specs.Moments.{Moment, blank, counted, setTime, setRaw}
-use Rattle.moment.proofs.Bounds.{made, after-raw}
+use Rattle.moment.proofs.Bounds.{after-raw}
+use Rattle.moment.proofs.Chains.{made}
 use Rattle.real.proofs.Epoch.{julian-ms}
 use Rattle.moment.proofs.Steps.{raw-julian, raw-other}
 use Rattle.moment.proofs.Moment.raw_number.Statement.{statement}

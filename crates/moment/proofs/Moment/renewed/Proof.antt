@@ -1,11 +1,10 @@
 -- `moment::Moment::renewed` meets its contract.
-use mathlib.Core.Bool.{false}
 use mathlib.Core.Path.{refl}
 use borrow.Author.Needs.{needs}
 use Rattle.rules.specs.Moments.{fill}
 use Rattle.moment.specs.Held.{held}
-use Rattle.moment.proofs.Bounds.{filled, undated-keeps}
-use Rattle.moment.proofs.Chains.{then-fill, filled-as}
+use Rattle.moment.proofs.Bounds.{undated-kept}
+use Rattle.moment.proofs.Chains.{filled, then-fill, filled-as}
 use Rattle.moment.proofs.Modifiers.{renew, renew-not}
 use Rattle.moment.proofs.Moment.renewed.Statement.{statement}
 use Rattle.moment.proofs.Moment.renewed.Tie as tie
@@ -22,7 +21,7 @@ fill-requires-2 c κs = search needs
 returns-2 : tie.Need-returns-2
 returns-2 c =
     let d = c .before .before .before in
-    filled-as (renew (held (d .args .self)) (c .before .if1 .left)) (then-fill fill (filled _ undated-keeps (d .args .self) _ (d .pre) refl) (c .fill2 .ensures))
+    filled-as (renew (held (d .args .self)) (c .before .if1 .left)) (then-fill fill (filled _ (undated-kept (held (d .args .self))) (d .pre) refl) (c .fill2 .ensures))
 
 pub renewed-spec : {M : Type 1} → statement M
 renewed-spec = tie.close (tie.spec fill-requires returns fill-requires-2 returns-2)

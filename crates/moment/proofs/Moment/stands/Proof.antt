@@ -1,5 +1,4 @@
 -- `moment::Moment::stands` meets its contract.
-use mathlib.Core.Path.{refl}
 use Rattle.moment.proofs.Moment.stands.Statement.{statement}
 use Rattle.moment.proofs.Moment.stands.Tie as tie
 

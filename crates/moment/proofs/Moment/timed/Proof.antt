@@ -3,7 +3,8 @@ use mathlib.Core.Bool.{true}
 use mathlib.Core.Path.{sym, ap, _∙_}
 use borrow.Author.Needs.{needs}
 use Rattle.rules.specs.Moments.{Moment, setTime, setTimed, setZone, setUtc}
-use Rattle.moment.proofs.Bounds.{made, after-timed}
+use Rattle.moment.proofs.Bounds.{after-timed}
+use Rattle.moment.proofs.Chains.{made}
 use Rattle.moment.proofs.Steps.{timed-utc, timed-other}
 use Rattle.moment.proofs.Moment.timed.Statement.{statement}
 use Rattle.moment.proofs.Moment.timed.Tie as tie

@@ -1,6 +1,6 @@
 -- `moment::Moment::utc` meets its contract.
 use mathlib.Core.Bool.{not}
-use mathlib.Core.Path.{_≡_, sym, ap, _∙_}
+use mathlib.Core.Path.{sym, ap, _∙_}
 use Prim.Native.Nat.{_*_, _≤_}
 use native.Mathlib.Omega.{arith}
 use lib.IntN.{natAbs}
@@ -9,8 +9,7 @@ use mir.Syntax.{w64}
 use mir.ValLaws.{toZ-ofZ}
 use Rattle.rules.specs.Moments.{setUtc}
 use Rattle.moment.specs.Held.{held}
-use Rattle.moment.proofs.Bounds.{same}
-use Rattle.moment.proofs.Chains.{then-move, move-fill, moved-as, no-move, filled-as}
+use Rattle.moment.proofs.Chains.{same, then-move, move-fill, moved-as, no-move, filled-as}
 use Rattle.moment.proofs.Modifiers.{step, utc-stays, utc-is}
 use Rattle.moment.proofs.Moment.utc.Statement.{statement}
 use Rattle.moment.proofs.Moment.utc.Tie as tie

@@ -1,5 +1,5 @@
 -- `moment::signs::in_year` meets its contract.
-use mathlib.Core.Path.{_≡_, sym, ap, _∙_}
+use mathlib.Core.Path.{_≡_}
 use Prim.Native.Nat.{ℕ, _*_, _/_, _%_, _-_, _+_, _≤_}
 use native.Mathlib.Omega.{arith}
 use borrow.Author.Needs.{needs}
@@ -9,8 +9,7 @@ use mir.Val.{SFits, toZ, ofZ}
 use mir.ValLaws.{toZ-ofZ}
 use Rattle.rules.specs.Basics.{move}
 use Rattle.rules.specs.Writing.{floorDiv}
-use Rattle.moment.specs.Ranges.{ReadYear}
-use Rattle.moment.proofs.Ways.{sfits, back, back-pos, Carried, carried, months-fit, number-high}
+use Rattle.moment.proofs.Ways.{back, back-pos, carried, months-fit, number-high}
 use Rattle.moment.proofs.signs.in_year.Statement.{statement}
 use Rattle.moment.proofs.signs.in_year.Tie as tie
 

@@ -1,22 +1,13 @@
--- How what the code hands back stands for what the rules say.
+-- What the readers hand each other: numbers held up to 10 ^ 19, and places.
 use mathlib.Core.Path.{_≡_}
 use mathlib.Core.Bool.{Bool, true, false}
 use mathlib.Core.List.{List}
 use Prim.Native.Nat.{ℕ, _^_, _≤_, min}
-use lib.Ieee.{Float}
 use lib.ListN.{length, drop}
 use Rattle.rules.specs.Basics.{Read, got, other, refuse}
 use Rattle.rules.specs.Decimal.{value}
-use Rattle.rules.specs.declared.Refusal.{Refusal}
-use Rattle.decimal.specs.declared.Number.{Number}
 use Rattle.decimal.specs.declared.Power.{Power}
 use Rattle.decimal.specs.declared.Digits.{Digits}
-
--- a text that is no decimal may have another form; one over the limits is refusal 5
-abbrev pub asRead : Number → Read Float
-asRead Number.NotOne = other
-asRead Number.Over = refuse Refusal.Decimal
-asRead (Number.Is x) = got x
 
 -- a number that digits write: up to 10 ^ 19 itself, and from there on 10 ^ 19
 abbrev pub held : ℕ → ℕ

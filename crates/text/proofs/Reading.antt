@@ -1,0 +1,99 @@
+-- Reading, one thing after another: each law turns what a function of the code answered into the rule's equation, for `rw`. Assumes nothing.
+use Prim.Native.Nat.{ℕ, _+_, _≤_, _<_}
+use Prim.Native.Char.{Char, code}
+use mathlib.Core.Bool.{Bool, true, false, _&&_}
+use mathlib.Core.Logic.{_⊎_, inl, inr, ⊎-elim}
+use mathlib.Core.Path.{_≡_, refl, ap, sym, _∙_}
+use mathlib.Core.List.{List, _∷_}
+use native.Mathlib.Numerals.{add-one}
+use lib.Dec.{eqb, ltb}
+use lib.ListN.{length, getD, drop, drop-of-length-le}
+use lib.Seq.{drop-cons}
+use borrow.Author.Tests.{eqb-true, eq-eqb, ltb-true, ltb-false}
+use Rattle.rules.specs.Basics.{Read, got, other, refuse, _>>=_, _or_, onlyIf, ended, byte, past}
+use Rattle.rules.specs.declared.Refusal.{Refusal}
+use Rattle.text.specs.Places.{found, Limits, Told, stands, leads}
+use Rattle.text.specs.declared.Found.{Found}
+use Rattle.text.specs.declared.Found.the-variants.{Number}
+use Rattle.text.proofs.Tests.{and-left, and-right}
+
+-- ---- sequence and choice
+module _ {A B : Type 0} {r : Read A} (f : A → Read B) where
+  pub bind-got : {a : A} → r ≡ got a → _>>=_ r f ≡ f a
+  bind-got h = rw h
+
+  pub bind-other : r ≡ other → _>>=_ r f ≡ other
+  bind-other h = rw h
+
+  pub bind-refuse : {x : Refusal} → r ≡ refuse x → _>>=_ r f ≡ refuse x
+  bind-refuse h = rw h
+
+module _ {A : Type 0} {r : Read A} (q : Read A) where
+  pub or-got : {a : A} → r ≡ got a → (r or q) ≡ got a
+  or-got h = rw h
+
+  pub or-other : r ≡ other → (r or q) ≡ q
+  or-other h = rw h
+
+  pub or-refuse : {x : Refusal} → r ≡ refuse x → (r or q) ≡ refuse x
+  or-refuse h = rw h
+
+module _ {A : Type 0} {t : Bool} (a : A) where
+  pub only-got : t ≡ true → onlyIf t a ≡ got a
+  only-got h = rw h
+
+  pub only-other : t ≡ false → onlyIf t a ≡ other
+  only-other h = rw h
+
+-- ---- the end of a text
+module _ {A : Type 0} (s : List ℕ) (at : ℕ) (a : A) where
+  pub ended-got : length s ≤ at → ended (drop at s) a ≡ got a
+  ended-got h = rw (drop-of-length-le s h)
+
+  pub ended-other : at < length s → ended (drop at s) a ≡ other
+  ended-other h = rw (drop-cons s at 0 h)
+
+-- ---- a number: of `two_digits`, `four_digits`. What is known once the answer is x, and where x is a number
+pub read-of : (s : List ℕ) (r x : Found) (d : Read (ℕ × List ℕ)) → found s r ≡ d → r ≡ x → d ≡ found s x
+read-of s r x d h e = sym h ∙ ap (found s) e
+
+pub told-of : {lo hi after size v next : ℕ} {r : Found} → Told lo hi after size r → r ≡ Number v next → Limits lo hi after size v next
+told-of h e = rw e at h
+
+-- ---- one byte: of `has`
+module _ (b : ℕ) (s : List ℕ) (at : ℕ) where
+  pub stands-inside : stands b s at ≡ true → at < length s
+  unfolding stands
+  stands-inside h = ltb-true at (length s) (and-left (ltb at (length s)) (eqb b (getD s at 0)) h)
+
+  pub stands-cons : stands b s at ≡ true → drop at s ≡ b ∷ drop (at + 1) s
+  unfolding stands
+  stands-cons h =
+      let e : b ≡ getD s at 0 = eqb-true b (getD s at 0) (and-right (ltb at (length s)) (eqb b (getD s at 0)) h) in
+      rw (drop-cons s at 0 (stands-inside h), add-one, e)
+
+  -- there is no byte, or it is another
+  pub stands-not : stands b s at ≡ false → (length s ≤ at) ⊎ ((at < length s) × (eqb b (getD s at 0) ≡ false))
+  unfolding stands
+  stands-not h = go (ltb at (length s)) refl h
+    where
+      go : (t : Bool) → ltb at (length s) ≡ t → t && eqb b (getD s at 0) ≡ false → (length s ≤ at) ⊎ ((at < length s) × (eqb b (getD s at 0) ≡ false))
+      go true k e = inr (ltb-true at (length s) k, e)
+      go false k e = inl (ltb-false at (length s) k)
+
+module _ (c : Char) (s : List ℕ) (at : ℕ) where
+  pub byte-got : stands (code c) s at ≡ true → byte c (drop at s) ≡ got (drop (at + 1) s)
+  byte-got h = rw (stands-cons (code c) s at h, eq-eqb (code c) (code c) refl)
+
+  pub byte-other : stands (code c) s at ≡ false → byte c (drop at s) ≡ other
+  byte-other h = ⊎-elim (λ k. rw (drop-of-length-le s {i = at} k)) (λ k. rw (drop-cons s at 0 (k .0), k .1)) (stands-not (code c) s at h)
+
+-- ---- a word: of `starts`
+module _ (w s : List ℕ) where
+  pub past-got : leads w s ≡ true → past w s ≡ got (drop (length w) s)
+  unfolding leads
+  past-got h = rw h
+
+  pub past-other : leads w s ≡ false → past w s ≡ other
+  unfolding leads
+  past-other h = rw h
