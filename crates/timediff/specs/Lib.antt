@@ -1,0 +1,2 @@
+-- What the functions of timediff give.
+pub mod Spans
