@@ -2,12 +2,12 @@
 use mathlib.Core.Path.{_≡_, refl, sym, _∙_, ap}
 use mathlib.Core.Bool.{Bool, true, false}
 use mathlib.Core.List.{List, _++_}
-use Prim.Native.Nat.{ℕ, _+_, _-_, _*_, _≤_, _<_}
+use Prim.Native.Nat.{ℕ, _+_, _-_, _*_, _/_, _≤_, _<_}
 use native.Mathlib.Omega.{arith}
 use borrow.Author.Tests.{leb-true, leb-false, le-leb, lt-leb}
 use lib.Dec.{leb}
 use Rattle.rules.specs.Basics.{if_then_else_, ascii}
-use Rattle.rules.specs.Calendar.{dayLength}
+use Rattle.rules.specs.Calendar.{year, minusYear, dayLength}
 use Rattle.rules.specs.Writing.{shiftText, forward, backward, difference}
 use Rattle.calendar.specs.Ranges.{InRange}
 use Rattle.timediff.specs.Spans.{gap, Toward, Tells, monthAt, shifted, passes, between, monthsOf, restOf, shiftOf, span, spanText}
@@ -53,10 +53,19 @@ text a b = go (leb b a)
 
 -- ---- the bounds
 
-pub months-bound : (plus : Bool) (a b : ℕ) → InRange a → InRange b → monthsOf plus a b ≤ 176555
+-- the months between a month that neither instant precedes and December 9999
+pub months-from : (low : ℕ) (plus : Bool) (a b : ℕ) → InRange a → InRange b → low ≤ monthAt a → low ≤ monthAt b → monthsOf plus a b ≤ year 9999 * 12 + 11 - low
 unfolding between
-months-bound true a b A B = omega (arith, up-to true a b, month-low b B, month-high a A)
-months-bound false a b A B = omega (arith, up-to false a b, month-low a A, month-high b B)
+months-from low true a b A B l m = omega (arith, up-to true a b, month-high a A)
+months-from low false a b A B l m = omega (arith, up-to false a b, month-high b B)
+
+pub months-bound : (plus : Bool) (a b : ℕ) → InRange a → InRange b → monthsOf plus a b ≤ 176555
+months-bound plus a b A B = months-from (minusYear 4713 * 12) plus a b A B (month-low a A) (month-low b B)
+
+-- the days are at most 30
+pub days-high : (a b : ℕ) → InRange a → InRange b → span a b .rest / dayLength ≤ 30
+unfolding span
+days-high a b A B = omega (arith, rest-high (leb b a) a b A B (toward a b))
 
 pub tells : (a b : ℕ) (s : Span) → InRange a → InRange b → s ≡ span a b → Tells a b s
 unfolding span

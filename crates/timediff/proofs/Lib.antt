@@ -4,3 +4,6 @@ pub mod Shifts
 pub mod Theorem
 pub mod Rounds
 pub mod Answer
+pub mod PutBack
+pub mod Promise
+pub mod Text
