@@ -1,7 +1,7 @@
 -- From the two ways to what `difference` gives: the sign, and the text of rules. Assumes nothing.
 use mathlib.Core.Path.{_≡_, refl, sym, _∙_, ap}
 use mathlib.Core.Bool.{Bool, true, false}
-use mathlib.Core.List.{List, _++_}
+use mathlib.Core.List.{_++_}
 use Prim.Native.Nat.{ℕ, _+_, _-_, _*_, _/_, _≤_, _<_}
 use native.Mathlib.Omega.{arith}
 use borrow.Author.Tests.{leb-true, leb-false, le-leb, lt-leb}
@@ -10,11 +10,11 @@ use Rattle.rules.specs.Basics.{if_then_else_, ascii}
 use Rattle.rules.specs.Calendar.{year, minusYear, dayLength}
 use Rattle.rules.specs.Writing.{shiftText, forward, backward, difference}
 use Rattle.calendar.specs.Ranges.{InRange}
-use Rattle.timediff.specs.Spans.{gap, Toward, Tells, monthAt, shifted, passes, between, monthsOf, restOf, shiftOf, span, spanText}
+use Rattle.timediff.specs.Spans.{Toward, Tells, monthAt, shifted, passes, between, monthsOf, restOf, shiftOf, span, spanText}
 use Rattle.timediff.specs.declared.Span.{Span}
 use Rattle.timediff.specs.declared.Shift.{Shift}
 use Rattle.timediff.proofs.Shifts.{month-low, month-high}
-use Rattle.timediff.proofs.Theorem.{up-to, rest-high}
+use Rattle.timediff.proofs.Numbers.{up-to, rest-high}
 
 -- ---- the sign
 

@@ -5,39 +5,18 @@ use Prim.Native.Nat.{ℕ, zero, suc, _+_, _-_, _*_, _/_, _%_, _≤_, _<_}
 use native.Mathlib.Omega.{arith}
 use borrow.Author.Tests.{le-leb, eq-eqb}
 use Rattle.rules.specs.Basics.{move}
-use Rattle.rules.specs.Calendar.{year, minusYear, Exists, dayLength, monthLength, midnight, timeOfDay, civil}
-use Rattle.rules.specs.Moments.{Moment, noZone, counted, setMs, setCounted, setDate, setOver, clear, timeMs, withTime, sumOf, countMs, fillDate, fillTime, fill, pastEnd, shift}
+use Rattle.rules.specs.Calendar.{year, minusYear, Exists, dayLength, monthLength, midnight}
+use Rattle.rules.specs.Moments.{Moment, noZone, counted, setCounted, setDate, setOver, clear, timeMs, withTime, sumOf, countMs, fillDate, fillTime, fill, pastEnd, shift}
 use Rattle.rules.specs.Moments as moment
 use Rattle.rules.specs.Modifiers.{signed, byDate}
 use Rattle.rules.specs.Writing.{inMonth}
 use Rattle.rules.specs.declared.Ymd.{Ymd}
 use Rattle.calendar.specs.Ranges.{InRange}
 use Rattle.calendar.proofs.Instants.{date-again, time-again}
+use Rattle.timediff.specs.Promise.{StandsFor, Counts, putBack}
 use Rattle.timediff.specs.Spans.{moved, Toward, monthAt, shifted, between, monthsOf, restOf}
 use Rattle.timediff.proofs.Shifts.{years}
-use Rattle.timediff.proofs.Theorem as theorem
-
--- The fields of a record stand for the instant b: its date and its time of day, in no zone.
-pub record StandsFor (b : ℕ) (p : Moment) : Type 0 where
-  pub year-is : p .year ≡ civil b .year
-  pub month-is : p .month ≡ civil b .month
-  pub day-is : p .day ≡ civil b .day
-  pub time-is : timeMs (p .hour) (p .minute) (p .second) ≡ timeOfDay b
-  pub is-dated : p .dated ≡ true
-  pub is-timed : p .timed ≡ true
-  pub no-zone : p .zone ≡ noZone
-  pub not-raw : p .raw ≡ false
-  pub not-failed : p .failed ≡ false
-
--- Of a record only the milliseconds stand, and they are t.
-pub record Counts (t : ℕ) (p : Moment) : Type 0 where
-  pub ms-is : p .ms ≡ t
-  pub is-counted : p .counted ≡ true
-  pub not-dated : p .dated ≡ false
-  pub not-timed : p .timed ≡ false
-  pub no-zone : p .zone ≡ noZone
-  pub not-raw : p .raw ≡ false
-  pub not-failed : p .failed ≡ false
+use Rattle.timediff.proofs.Numbers as numbers
 
 -- Fields that stand are not filled. So they stand for an instant where they were written in full: an existing day, a time of that day, no zone.
 pub as-filled : (b : ℕ) (p : Moment) → StandsFor b p → StandsFor b (fill p)
@@ -89,10 +68,6 @@ module _ (plus : Bool) (b n : ℕ) (p : Moment) (h : StandsFor b (fill p)) where
 
 -- ---- timediff's answer as a modifier
 
--- what the modifier of a sign, years and months, days and a time makes of a record
-abbrev pub putBack : Bool → ℕ → ℕ → Moment → Moment
-putBack plus months rest p = byDate (not plus) (months / 12) (months % 12) (rest / dayLength) (rest % dayLength) p
-
 module _ (plus : Bool) (a b : ℕ) (A : InRange a) (B : InRange b) (w : Toward plus a b) (p : Moment) (h : StandsFor b (fill p)) where
   -- up to the months between, the modifier makes every shift; with no rest it is the month shift alone
   pub shifts : (n rest : ℕ) → n ≤ between plus a b → Counts (moved plus (shifted plus b n) rest) (putBack plus n rest p)
@@ -110,4 +85,4 @@ module _ (plus : Bool) (a b : ℕ) (A : InRange a) (B : InRange b) (w : Toward p
 
   -- put back as B's modifier, the months and the rest reach A to the millisecond
   pub arrives : Counts a (putBack plus (monthsOf plus a b) (restOf plus a b) p)
-  arrives = rw (theorem.arrives plus a b A B w) at (shifts (monthsOf plus a b) (restOf plus a b) (theorem.up-to plus a b))
+  arrives = rw (numbers.arrives plus a b A B w) at (shifts (monthsOf plus a b) (restOf plus a b) (numbers.up-to plus a b))

@@ -1,7 +1,7 @@
 -- The loop that backs off, in its own terms. Assumes nothing.
 use mathlib.Core.Path.{_≡_, refl, sym, _∙_, ap}
 use mathlib.Core.Bool.{Bool, true, false}
-use Prim.Native.Nat.{ℕ, _+_, _-_, _/_, _%_, _≤_, _<_}
+use Prim.Native.Nat.{ℕ, _+_, _-_, _/_, _%_, _≤_}
 use native.Mathlib.Omega.{arith}
 use Rattle.rules.specs.Calendar.{midnight, timeOfDay, civil}
 use Rattle.rules.specs.Writing.{monthOf, inMonth, backOff}
@@ -12,7 +12,7 @@ use Rattle.timediff.specs.Spans.{moved, gap, past, Toward, monthAt, shif
 use Rattle.timediff.specs.declared.Shift.{Shift}
 use Rattle.timediff.proofs.BackOff as off
 use Rattle.timediff.proofs.Shifts.{date, month-low, month-high, none-stays, years}
-use Rattle.timediff.proofs.Theorem.{stays, two-suffice}
+use Rattle.timediff.proofs.Numbers.{stays, two-suffice}
 
 -- what stands before the loop, with n₀ months to start at
 pub record Begun (plus : Bool) (a b : ℕ) (d : Ymd) (time from n₀ : ℕ) : Type 0 where

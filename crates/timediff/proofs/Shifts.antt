@@ -1,24 +1,20 @@
 -- Where B lies once it is moved: its month's first day, and the milliseconds from there on, which a month shift keeps. Assumes nothing.
-use mathlib.Core.Path.{_≡_, sym, _∙_, ap}
+use mathlib.Core.Path.{_≡_, ap}
 use mathlib.Core.Bool.{Bool, true, false}
-use Prim.Native.Nat.{ℕ, suc, _+_, _-_, _*_, _/_, _%_, _≤_, _<_}
+use Prim.Native.Nat.{ℕ, suc, _+_, _-_, _*_, _/_, _≤_, _<_}
 use native.Mathlib.Omega.{arith}
 use native.Mathlib.Decide.{decLt}
 use borrow.Author.Tests.{ltb-true, ltb-false, le-ltb}
 use Rattle.rules.specs.Calendar.{minusYear, year, dayLength, start, midnight, dayOf, timeOfDay, civil}
 use Rattle.rules.specs.Writing.{inMonth}
-use Rattle.calendar.specs.Ranges.{Countable, InRange}
-use Rattle.calendar.proofs.Counting.{DateOf, month-day}
+use Rattle.calendar.specs.Ranges.{InRange}
+use Rattle.calendar.proofs.Counting.{DateOf}
 use Rattle.calendar.proofs.Instants.{time-high, from-start, date-of, there-and-back}
 use Rattle.calendar.proofs.Months.{len, first, len-low, len-high, of-date, of-length, in-month, first-next, first-rises}
+use Rattle.timediff.specs.Promise.{Past}
 use Rattle.timediff.specs.Spans.{moved, gap, past, Toward, monthAt, shifted, passes, between}
 
 -- ---- the sign's two ways
-
--- a test "past", as an order
-abbrev pub Past : Bool → ℕ → ℕ → Type 0
-Past true a x = a < x
-Past false a x = x < a
 
 pub is-past : (plus : Bool) (a x : ℕ) → past plus a x ≡ true → Past plus a x
 is-past true a x h = ltb-true _ _ h

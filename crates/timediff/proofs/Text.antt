@@ -1,9 +1,8 @@
 -- The text of timediff: its sign, its length, and that of equal instants. Assumes nothing.
 use mathlib.Core.Path.{_≡_, refl, sym, _∙_, ap}
 use mathlib.Core.Bool.{Bool, true, false}
-use mathlib.Core.List.{List, [], _∷_, _++_}
+use mathlib.Core.List.{List, _++_}
 use Prim.Native.Nat.{ℕ, zero, suc, _+_, _-_, _*_, _/_, _%_, _^_, _≤_, _<_, max}
-use native.Mathlib.Nat.{pow-suc}
 use native.Mathlib.Omega.{arith}
 use borrow.Author.Tests.{ltb-true, ltb-false, lt-ltb, le-ltb}
 use lib.Dec.{ltb, leb}
@@ -12,9 +11,9 @@ use Rattle.rules.specs.Basics.{if_then_else_, ascii}
 use Rattle.rules.specs.Calendar.{year, dayLength, civil}
 use Rattle.rules.specs.Writing.{places, width, wide, shiftText, difference}
 use Rattle.calendar.specs.Ranges.{InRange}
-use Rattle.timediff.specs.Spans.{monthAt, between, monthsOf, restOf, shifted, span, spanText}
-use Rattle.timediff.proofs.Shifts.{month-high, none}
-use Rattle.timediff.proofs.Theorem.{up-to, rest-high}
+use Rattle.timediff.specs.Spans.{monthAt, between, monthsOf, restOf, span, spanText}
+use Rattle.timediff.proofs.Shifts.{none}
+use Rattle.timediff.proofs.Numbers.{up-to, rest-high}
 use Rattle.timediff.proofs.Answer.{toward, text, months-from, months-bound, span-plus}
 
 -- ---- digits
@@ -83,17 +82,10 @@ module _ (a b : ℕ) (A : InRange a) (B : InRange b) where
       let l = shift-length (monthsOf plus a b) (restOf plus a b) (omega (arith, months-bound plus a b A B)) (rest-high plus a b A B (toward a b)) in
       ap length (sym (text a b)) ∙ sign-length plus _ ∙ omega (arith, l)
 
-  pub bytes-low : 24 ≤ length (difference a b)
-  bytes-low = rw bytes (go (ltb (span a b .months / 12) 10000))
+  pub bytes-range : (24 ≤ length (difference a b)) × (length (difference a b) ≤ 25)
+  bytes-range = rw bytes (go (ltb (span a b .months / 12) 10000))
     where
-      go : (t : Bool) → 24 ≤ (if t then 4 else 5) + 20
-      go true = omega arith
-      go false = omega arith
-
-  pub bytes-high : length (difference a b) ≤ 25
-  bytes-high = rw bytes (go (ltb (span a b .months / 12) 10000))
-    where
-      go : (t : Bool) → (if t then 4 else 5) + 20 ≤ 25
+      go : (t : Bool) → (24 ≤ (if t then 4 else 5) + 20) × ((if t then 4 else 5) + 20 ≤ 25)
       go true = omega arith
       go false = omega arith
 

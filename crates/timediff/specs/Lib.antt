@@ -1,2 +1,3 @@
--- What the functions of timediff give.
+-- What timediff gives, and what is promised of it.
 pub mod Spans
+pub mod Promise

@@ -1,6 +1,7 @@
 // timediff in numbers: how far, and which way, B is moved to reach A. Whole months come first, then the milliseconds that are left.
 //
-// A and B are instants from the millisecond 0 to the last, held as rules holds them. A calendar month is one number, year * 12 + month - 1.
+// A and B are instants from the millisecond 0 to the last, held as rules holds them. A calendar month is one number, year * 12 + month - 1:
+// November -4713, which holds the millisecond 0, is 423454 and December 9999 is 599999.
 //
 // B, moved by the months from its calendar month to A's, may lie past A: then the shift is backed off, one month at a time. Two back-offs
 // suffice. They are needed where B's day runs over the end of a short month: from 2023-01-31 forward to 2023-03-01 two months lead to 03-31,
@@ -8,15 +9,14 @@
 //
 // A shifted B never leaves the months between B's and A's, so it lies on -4713-11-01 at the earliest. That is below the millisecond 0.
 ghost use mathlib.Core.Path.{_≡_};
-ghost use Prim.Native.Nat.{_+_, _*_, _/_, _%_, _≤_, _<_};
-ghost use Rattle.rules.specs.Calendar.{midnight, last};
+ghost use Prim.Native.Nat.{_+_, _/_, _%_, _≤_, _<_};
+ghost use Rattle.rules.specs.Calendar.{midnight};
 ghost use Rattle.rules.specs.Writing.{monthOf};
 ghost use Rattle.calendar.specs.Ranges.{Countable, InRange};
-ghost use Rattle.timediff.specs.Spans as span;
-ghost use Rattle.timediff.specs.Spans.{Toward, Tells};
+ghost use Rattle.timediff.specs.Spans.{moved, gap, past, between, shiftOf, Toward, Tells};
 use rules::Ymd;
 
-// What timediff writes: the sign, the months and, in milliseconds, the rest.
+// What timediff writes: the sign, the months and, in milliseconds, the rest, which is less than 31 days.
 pub struct Span {
     pub plus: bool,
     pub months: u32,
@@ -40,7 +40,7 @@ fn month_of(date: Ymd) -> u32
 // The months from one calendar month forward, or backward, to another.
 fn months_between(plus: bool, from: u32, to: u32) -> u32
     requires { ⌜ Toward plus to from ⌝ }
-    ensures { λ r. ⌜ r ≡ span.gap plus from to ⌝ }
+    ensures { λ r. ⌜ r ≡ gap plus from to ⌝ }
 {
     if plus { to - from } else { from - to }
 }
@@ -48,7 +48,7 @@ fn months_between(plus: bool, from: u32, to: u32) -> u32
 // A calendar month moved forward, or backward, by n.
 fn moved(plus: bool, month: u32, n: u32) -> u32
     requires { ⌜ (n ≤ month) × (month ≤ 599999) ⌝ }
-    ensures { λ r. ⌜ r ≡ span.moved plus month n ⌝ }
+    ensures { λ r. ⌜ r ≡ moved plus month n ⌝ }
 {
     if plus { month + n } else { month - n }
 }
@@ -64,7 +64,7 @@ fn in_month(month: u32, day: u32, time: u32) -> u64
 
 // Whether an instant lies past A.
 fn is_past(plus: bool, a: u64, at: u64) -> bool
-    ensures { λ r. ⌜ r ≡ span.past plus a at ⌝ }
+    ensures { λ r. ⌜ r ≡ past plus a at ⌝ }
 {
     if plus { a < at } else { at < a }
 }
@@ -73,7 +73,7 @@ fn is_past(plus: bool, a: u64, at: u64) -> bool
 // not pass."
 fn back_off(plus: bool, a: u64, b: u64) -> Shift
     requires { ⌜ InRange a × InRange b × Toward plus a b ⌝ }
-    ensures { λ r. ⌜ (r ≡ span.shiftOf plus a b) × Toward plus a (r .at) × (span.between plus a b ≤ r .months + 2) ⌝ }
+    ensures { λ r. ⌜ (r ≡ shiftOf plus a b) × Toward plus a (r .at) × (between plus a b ≤ r .months + 2) ⌝ }
 {
     let date = calendar::civil(b);
     let time = calendar::time_of_day(b);

@@ -1,5 +1,4 @@
 -- `timediff::back_off` meets its contract. The measure says that at most two rounds are made after the first. Assumes nothing.
-use mathlib.Core.Path.{_≡_}
 use Prim.Native.Nat.{_+_, _-_, _≤_}
 use native.Mathlib.Omega.{arith}
 use borrow.Author.Needs.{needs}

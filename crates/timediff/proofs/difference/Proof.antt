@@ -1,4 +1,6 @@
 -- `timediff::difference` meets its contract. Assumes nothing.
+use Prim.Native.Nat.{_≤_, _<_}
+use native.Mathlib.Omega.{arith}
 use Rattle.timediff.proofs.Answer.{tells-plus, tells-minus}
 use borrow.Author.Needs.{needs}
 use Rattle.timediff.proofs.difference.Statement.{statement}
@@ -17,10 +19,16 @@ sub-t8 : tie.Need-sub-t8
 sub-t8 c = search needs
 
 returns : tie.Need-returns
-returns c = tells-plus _ _ _ (c .before .before .before .pre .0) (c .before .before .before .pre .1) (c .before .before .if1 .taken) (c .before .back-off .ensures .0)
+returns c =
+    let s = c .before .before .before in
+    let l : s .args .b ≤ s .args .a = omega arith in
+    tells-plus _ _ _ (s .pre .0) (s .pre .1) l (c .before .back-off .ensures .0)
 
 returns-2 : tie.Need-returns-2
-returns-2 c = tells-minus _ _ _ (c .before .before .before .pre .0) (c .before .before .before .pre .1) (c .before .before .if1 .left) (c .before .back-off2 .ensures .0)
+returns-2 c =
+    let s = c .before .before .before in
+    let l : s .args .a < s .args .b = omega arith in
+    tells-minus _ _ _ (s .pre .0) (s .pre .1) l (c .before .back-off2 .ensures .0)
 
 pub difference-spec : {M : Type 1} → statement M
 difference-spec =

@@ -1,16 +1,17 @@
 -- What timediff's numbers promise, for every A and B from the millisecond 0 to the last, A lying the way that the sign says. Assumes nothing.
-use mathlib.Core.Path.{_≡_, ap}
+use mathlib.Core.Path.{_≡_}
 use mathlib.Core.Bool.{Bool, true, false}
 use Prim.Native.Nat.{ℕ, suc, _+_, _-_, _*_, _≤_, _<_}
 use native.Mathlib.Omega.{arith}
 use native.Mathlib.Decide.{decLt}
 use Rattle.rules.specs.Calendar.{dayLength}
-use Rattle.rules.specs.Writing.{inMonth, backOff}
+use Rattle.rules.specs.Writing.{inMonth}
 use Rattle.calendar.specs.Ranges.{InRange}
-use Rattle.calendar.proofs.Months.{first, len-high, first-next}
+use Rattle.calendar.proofs.Months.{len-high, first-next}
+use Rattle.timediff.specs.Promise.{Past}
 use Rattle.timediff.specs.Spans.{moved, gap, Toward, monthAt, shifted, passes, between, monthsOf, restOf}
 use Rattle.timediff.proofs.BackOff as off
-use Rattle.timediff.proofs.Shifts.{Past, is-past, is-within, not-past, home, in-month-is, into-31, month-low, month-high, ordered, none-stays, two-before, one-after}
+use Rattle.timediff.proofs.Shifts.{is-past, is-within, not-past, home, in-month-is, into-31, month-low, ordered, none-stays, two-before, one-after}
 
 -- ---- the greatest months
 
