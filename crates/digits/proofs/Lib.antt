@@ -6,3 +6,5 @@ pub mod Down
 pub mod Hex
 pub mod Signs
 pub mod Texts
+pub mod Trim
+pub mod Floats

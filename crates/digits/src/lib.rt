@@ -8,14 +8,18 @@
 ghost use mathlib.Core.Path.{_≡_};
 ghost use mathlib.Core.List.{[], _∷_};
 ghost use Prim.Native.Nat.{_+_, _≤_, _<_, _^_};
-ghost use mathlib.Core.Bool.{not};
+ghost use mathlib.Core.Bool.{true, not};
 ghost use lib.Dec.{T};
 ghost use lib.IntN.{natAbs};
 ghost use lib.Ieee.{binary64, isNan, toBits};
 ghost use lib.ListN.{length};
+ghost use Rattle.rules.specs.Basics.{is, trimEnd};
+ghost use Rattle.rules.specs.Calendar.{instant, last};
+ghost use Rattle.rules.specs.Floats.{decimals};
 ghost use Rattle.rules.specs.Program.{hex};
 ghost use Rattle.rules.specs.Writing as text;
-ghost use Rattle.digits.specs.Writers.{Room, Laid, hexDigit};
+ghost use Rattle.real.specs.InMinute.{inMinute};
+ghost use Rattle.digits.specs.Writers.{Room, Laid, hexDigit, unixDecimals};
 
 // One byte.
 pub fn put_byte(buf: &mut [u8], at: usize, b: u8) -> usize
@@ -235,4 +239,128 @@ pub fn short_year_length(year: u32) -> usize
         return 2;
     }
     1 + number_length(1, back as u64)
+}
+
+// A point, and the three lowest decimal places of a number of thousandths.
+fn put_point(buf: &mut [u8], at: usize, t: u64) -> usize
+    requires { ⌜ Room (now buf) at (46 ∷ text.places 3 t) ⌝ }
+    ensures { λ r. ⌜ Laid (now (buf .entry)) at (46 ∷ text.places 3 t) (now (buf .exit)) r ⌝ }
+{
+    let digits = put_byte(buf, at, b'.');
+    put_three(buf, digits, (t % 1000) as u32)
+}
+
+// The seconds of a time of day, cut to whole ones, in two digits.
+pub fn put_second(buf: &mut [u8], at: usize, second: f64) -> usize
+    requires { ⌜ inMinute second ≡ true ⌝ ∗ ⌜ Room (now buf) at (text.secondText second) ⌝ }
+    ensures { λ r. ⌜ Laid (now (buf .entry)) at (text.secondText second) (now (buf .exit)) r ⌝ }
+{
+    put_two(buf, at, real::whole(second) as u32)
+}
+
+// The seconds of a time of day: "three decimals of the f64, ties to even".
+pub fn put_second_decimals(buf: &mut [u8], at: usize, second: f64) -> usize
+    requires { ⌜ inMinute second ≡ true ⌝ ∗ ⌜ Room (now buf) at (text.threeDecimals 2 second) ⌝ }
+    ensures { λ r. ⌜ Laid (now (buf .entry)) at (text.threeDecimals 2 second) (now (buf .exit)) r ⌝ }
+{
+    let t = real::thousandths(second);
+    let point = put_two(buf, at, (t / 1000) as u32);
+    put_point(buf, point, t)
+}
+
+// The Unix epoch, as it is held.
+const UNIX_EPOCH: u64 = 9223582903614775808;
+
+// The seconds since the Unix epoch, as an f64, in thousandths and without their sign.
+fn unix_thousandths(ms: u64) -> u64
+    requires { ⌜ instant 0 ≤ ms ⌝ ∗ ⌜ ms ≤ last ⌝ }
+    ensures { λ r. ⌜ r ≡ decimals 3 (text.unixReal ms) ⌝ }
+{
+    real::thousandths(real::unix_real(ms))
+}
+
+// The seconds since the Unix epoch, as an f64, with three decimals.
+pub fn put_unix_decimals(buf: &mut [u8], at: usize, ms: u64) -> usize
+    requires { ⌜ instant 0 ≤ ms ⌝ ∗ ⌜ ms ≤ last ⌝ ∗ ⌜ Room (now buf) at (unixDecimals ms) ⌝ }
+    ensures { λ r. ⌜ Laid (now (buf .entry)) at (unixDecimals ms) (now (buf .exit)) r ⌝ }
+{
+    let t = unix_thousandths(ms);
+    if ms < UNIX_EPOCH {
+        let point = put_minus(buf, at, 1, t / 1000);
+        return put_point(buf, point, t);
+    }
+    let point = put_number(buf, at, 1, t / 1000);
+    put_point(buf, point, t)
+}
+
+// How many bytes `put_unix_decimals` takes.
+pub fn unix_decimals_length(ms: u64) -> usize
+    requires { ⌜ instant 0 ≤ ms ⌝ ∗ ⌜ ms ≤ last ⌝ }
+    ensures { λ r. ⌜ r ≡ length (unixDecimals ms) ⌝ }
+{
+    let t = unix_thousandths(ms);
+    let whole = number_length(1, t / 1000);
+    if ms < UNIX_EPOCH {
+        return whole + 5;
+    }
+    whole + 4
+}
+
+// Some decimal places: `count` of them, which show `value`.
+struct Places {
+    count: usize,
+    value: u64,
+}
+
+// The nine lowest decimal places of a number, "trailing zeros .. dropped".
+fn trimmed(n: u64) -> Places
+    ensures { λ r. ⌜ (text.places (r .count) (r .value) ≡ trimEnd (is "0") (text.places 9 n)) × (r .count ≤ 9) ⌝ }
+{
+    let mut count = 9;
+    let mut value = n;
+    while count > 0 {
+        if value % 10 != 0 {
+            return Places { count, value };
+        }
+        value /= 10;
+        count -= 1;
+    }
+    Places { count, value }
+}
+
+// The Julian day, as an f64, in units of 10^-9.
+fn julian_billionths(ms: u64) -> u64
+    requires { ⌜ instant 86400000000000 ≤ ms ⌝ ∗ ⌜ ms ≤ last ⌝ }
+    ensures { λ r. ⌜ r ≡ decimals 9 (text.julianReal ms) ⌝ }
+{
+    real::billionths(real::julian_real(ms))
+}
+
+// The Julian day: "nine decimals of the f64, ties to even, trailing zeros and point dropped". From 86400000000000 ms on.
+pub fn put_julian(buf: &mut [u8], at: usize, ms: u64) -> usize
+    requires { ⌜ instant 86400000000000 ≤ ms ⌝ ∗ ⌜ ms ≤ last ⌝ ∗ ⌜ Room (now buf) at (text.julianText ms) ⌝ }
+    ensures { λ r. ⌜ Laid (now (buf .entry)) at (text.julianText ms) (now (buf .exit)) r ⌝ }
+{
+    let n = julian_billionths(ms);
+    let fraction = trimmed(n);
+    if fraction.count == 0 {
+        return put_number(buf, at, 1, n / 1000000000);
+    }
+    let point = put_number(buf, at, 1, n / 1000000000);
+    let digits = put_byte(buf, point, b'.');
+    put_places(buf, digits, fraction.count, fraction.value)
+}
+
+// How many bytes `put_julian` takes.
+pub fn julian_length(ms: u64) -> usize
+    requires { ⌜ instant 86400000000000 ≤ ms ⌝ ∗ ⌜ ms ≤ last ⌝ }
+    ensures { λ r. ⌜ r ≡ length (text.julianText ms) ⌝ }
+{
+    let n = julian_billionths(ms);
+    let whole = number_length(1, n / 1000000000);
+    let fraction = trimmed(n);
+    if fraction.count == 0 {
+        return whole;
+    }
+    whole + 1 + fraction.count
 }
