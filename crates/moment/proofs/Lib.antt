@@ -1,0 +1,7 @@
+-- Laws of the record that rules defines.
+-- what holds of both branches of a test
+pub mod Branches
+-- what each step gives, case by case
+pub mod Steps
+-- the ranges of the fields, through each step
+pub mod Bounds
