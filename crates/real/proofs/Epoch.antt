@@ -1,5 +1,5 @@
 -- Numbers as Julian days and as seconds from 1970: how many milliseconds they come to, and milliseconds as days and seconds. Assumes nothing.
-use mathlib.Core.Path.{_≡_, refl}
+use mathlib.Core.Path.{_≡_, refl, _∙_}
 use mathlib.Core.Bool.{true, false}
 use Prim.Native.Nat.{ℕ, suc, _-_, _*_, _^_, _≤_, _<_}
 use native.Mathlib.Nat.{le-refl, le-trans}
@@ -8,15 +8,15 @@ use native.Mathlib.Omega.{arith}
 use lib.Dec.{T, lit≤}
 use lib.Ieee.{Float, nan, inf, fin, binary64, add, mul, div, neg, le, lt, ofInt, round, minus, toUnsigned}
 use lib.Pow.{pow-pos}
-use lib.Ieee.Positive.{num, den}
-use Rattle.rules.specs.Floats.{number, ratio, half, within, below, _⊕_, _⊘_}
+use lib.Ieee.Positive.{num, den, positive}
+use Rattle.rules.specs.Floats.{number, ratio, half, within, below, decimals, negative, _⊕_, _⊘_}
 use Rattle.rules.specs.Calendar.{instant, last, unixEpoch}
 use Rattle.rules.specs.Reading.{isJulian, julianMs}
 use Rattle.rules.specs.Modifiers.{fromEpoch, nearestMs, isAuto, isUnix}
 use Rattle.rules.specs.Writing.{unixReal, julianReal}
-use Rattle.real.proofs.Sign.{number-neg}
+use Rattle.real.proofs.Sign.{number-neg, round-sign, div-sign}
 use Rattle.real.proofs.Signs.{minus-pos, minus-neg}
-use Rattle.real.proofs.Within.{Within, isPlain, is-plain, within-neg, within-mul, within-add, within-div, within-round, plain-round, whole-within, half-self}
+use Rattle.real.proofs.Within.{Within, isPlain, is-plain, within-neg, within-mul, within-add, within-div, within-round, plain-round, whole-within, decimals-within, half-self}
 use Rattle.real.proofs.Tests.{and-left, and-right, number-plain, number-within, within-below, within-le, span-within, around}
 use Rattle.real.proofs.Near.{number-val, div-at}
 
@@ -83,6 +83,10 @@ pub julian-span : (t : ℕ) → instant 86400000000000 ≤ t → t ≤ last → 
 unfolding julianReal
 julian-span t h k = days-span (t - instant 0) (omega arith) (omega arith)
 
+above : T (positive (number 1000))
+unfolding ofInt round
+above = tt
+
 since-within : (t : ℕ) → instant 0 ≤ t → t ≤ last → Within (ofInt binary64 (minus t unixEpoch)) (number 253402300800000)
 since-within t h k = go (decLt t unixEpoch)
   where
@@ -90,6 +94,27 @@ since-within t h k = go (decLt t unixEpoch)
     go (yes l) = rw (minus-neg t unixEpoch l, ← number-neg (unixEpoch - suc t)) (within-neg (number-within (suc (unixEpoch - suc t)) 253402300800000 (omega arith) (lit≤ tt)))
     go (no l) = rw (minus-pos t unixEpoch (omega (arith, l))) (number-within (t - unixEpoch) 253402300800000 (omega arith) (lit≤ tt))
 
-pub unix-span : (t : ℕ) → instant 0 ≤ t → t ≤ last → below (unixReal t) (number 9007199254740992) ≡ true
+since-seconds : (t : ℕ) → instant 0 ≤ t → t ≤ last → Within (unixReal t) (number 253402300800000 ⊘ number 1000)
 unfolding unixReal ofInt round div
-unix-span t h k = within-below {y = number 253402300800000 ⊘ number 1000} (within-div (number 1000) (since-within t h k) tt tt) (number-plain 9007199254740992 (lit≤ tt)) (lit≤ tt)
+since-seconds t h k = within-div (number 1000) (since-within t h k) tt tt
+
+pub unix-span : (t : ℕ) → instant 0 ≤ t → t ≤ last → below (unixReal t) (number 9007199254740992) ≡ true
+unfolding ofInt round div
+unix-span t h k = within-below (since-seconds t h k) (number-plain 9007199254740992 (lit≤ tt)) (lit≤ tt)
+
+-- ---- how many decimals they come to, and the sign of the seconds
+pub julian-billionths : (t : ℕ) → instant 86400000000000 ≤ t → t ≤ last → decimals 9 (julianReal t) ≤ 8388608000000000
+unfolding ofInt round
+julian-billionths t h k = decimals-within 9 (span-within (julianReal t) (number-plain 1000000 (lit≤ tt)) (number-plain 8388608 (lit≤ tt)) (julian-span t h k) .0)
+
+pub unix-thousandths : (t : ℕ) → instant 0 ≤ t → t ≤ last → decimals 3 (unixReal t) ≤ 253402300800000
+unfolding ofInt round div
+unix-thousandths t h k = decimals-within 3 (since-seconds t h k)
+
+pub unix-plus : (t : ℕ) → unixEpoch ≤ t → negative (unixReal t) ≡ false
+unfolding unixReal ofInt
+unix-plus t h = div-sign (ofInt binary64 (minus t unixEpoch)) (number 1000) above ∙ rw (minus-pos t unixEpoch h) (round-sign false (t - unixEpoch) 1)
+
+pub unix-minus : (t : ℕ) → t < unixEpoch → negative (unixReal t) ≡ true
+unfolding unixReal ofInt
+unix-minus t h = div-sign (ofInt binary64 (minus t unixEpoch)) (number 1000) above ∙ rw (minus-neg t unixEpoch h) (round-sign true (suc (unixEpoch - suc t)) 1)
