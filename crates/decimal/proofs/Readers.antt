@@ -2,18 +2,21 @@
 use mathlib.Core.Path.{_≡_, refl, sym, ap, _∙_}
 use mathlib.Core.Bool.{Bool, true, false, _||_}
 use mathlib.Core.List.{List, [], _∷_, _++_}
+use mathlib.Core.Logic.{_⊎_, inl, inr}
 use Prim.Native.Nat.{ℕ, suc, _+_, _-_, _*_, _^_, _≤_, _<_, zero-le}
 use native.Mathlib.Nat.{min-eq-left, min-le-right}
 use native.Mathlib.Numerals.{add-one}
 use native.Mathlib.Omega.{arith}
-use borrow.Author.Tests.{ne-eqb}
 use lib.Ieee.{Float, nan, inf}
 use lib.ListN.{length, getD, drop, drop-of-length-le, length-append}
+use lib.Dec.{eqb}
 use lib.Seq.{drop-cons}
 use Rattle.rules.specs.Basics.{ascii, is, isDigit, word, Read, got, other, ended, _>>=_}
 use Rattle.rules.specs.Decimal.{sign, run, value, point, some, exponent, digitsForm, namedForm}
 use Rattle.real.proofs.Run.{run-step}
+use Rattle.text.specs.Places.{stands}
 use Rattle.text.proofs.Bytes.{digit-bounds}
+use Rattle.text.proofs.Reading.{stands-cons, stands-not}
 use Rattle.decimal.specs.Held.{held, heldExponent, Taken}
 use Rattle.decimal.specs.declared.Digits.{Digits}
 use Rattle.decimal.proofs.Limits.{held-value, value-append, scaled, held-scaled}
@@ -29,21 +32,25 @@ module _ (s : List ℕ) (at : ℕ) where
 -- ---- a sign
 
 module _ (s : List ℕ) (at : ℕ) where
-  pub sign-end : length s ≤ at → sign (drop at s) ≡ (false, drop at s)
+  pub sign-minus : stands 45 s at ≡ true → sign (drop at s) ≡ (true, drop (at + 1) s)
   unfolding sign
-  sign-end h = rw (at-end s at h)
+  sign-minus e = rw (stands-cons 45 s at e)
 
-  pub sign-minus : at < length s → getD s at 0 ≡ 45 → sign (drop at s) ≡ (true, drop (at + 1) s)
+  pub sign-plus : stands 43 s at ≡ true → sign (drop at s) ≡ (false, drop (at + 1) s)
   unfolding sign
-  sign-minus h e = rw (at-byte s at h, e)
+  sign-plus e = rw (stands-cons 43 s at e)
 
-  pub sign-plus : at < length s → getD s at 0 ≡ 43 → sign (drop at s) ≡ (false, drop (at + 1) s)
+  pub sign-none : stands 45 s at ≡ false → stands 43 s at ≡ false → sign (drop at s) ≡ (false, drop at s)
   unfolding sign
-  sign-plus h e = rw (at-byte s at h, e)
+  sign-none m p = go (stands-not 45 s at m) (stands-not 43 s at p)
+    where
+      Other : ℕ → Type 0
+      Other b = (length s ≤ at) ⊎ ((at < length s) × (eqb b (getD s at 0) ≡ false))
 
-  pub sign-none : at < length s → (getD s at 0 ≡ 45 → ⊥) → (getD s at 0 ≡ 43 → ⊥) → sign (drop at s) ≡ (false, drop at s)
-  unfolding sign
-  sign-none h m p = rw (at-byte s at h, ne-eqb 45 (getD s at 0) (λ e. m (sym e)), ne-eqb 43 (getD s at 0) (λ e. p (sym e)))
+      go : Other 45 → Other 43 → sign (drop at s) ≡ (false, drop at s)
+      go (inl h) q = rw (at-end s at h)
+      go (inr r) (inl h) = rw (at-end s at h)
+      go (inr r) (inr q) = rw (at-byte s at (r .0), r .1, q .1)
 
 -- ---- digits
 
@@ -101,17 +108,16 @@ unfolding value
 taken-none of s at before e h k = rw e (record { number = sym (min-eq-left k); many = refl; few = zero-le; rest = refl; within = h })
 
 module _ (s : List ℕ) (at : ℕ) where
-  pub point-end : length s ≤ at → point (drop at s) ≡ ([], drop at s)
+  pub point-none : stands 46 s at ≡ false → point (drop at s) ≡ ([], drop at s)
   unfolding point
-  point-end h = rw (at-end s at h)
+  point-none e = elim (stands-not 46 s at e) [
+    | inl h ↦ rw (at-end s at h)
+    | inr r ↦ rw (at-byte s at (r .0), r .1)
+  ]
 
-  pub point-none : at < length s → (getD s at 0 ≡ 46 → ⊥) → point (drop at s) ≡ ([], drop at s)
+  pub point-some : stands 46 s at ≡ true → point (drop at s) ≡ run (drop (at + 1) s)
   unfolding point
-  point-none h e = rw (at-byte s at h, ne-eqb 46 (getD s at 0) (λ f. e (sym f)))
-
-  pub point-some : at < length s → getD s at 0 ≡ 46 → point (drop at s) ≡ run (drop (at + 1) s)
-  unfolding point
-  point-some h e = rw (at-byte s at h, e)
+  point-some e = rw (stands-cons 46 s at e)
 
 -- ---- an exponent
 

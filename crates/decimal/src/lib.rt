@@ -60,20 +60,13 @@ fn sign(s: &[u8], at: usize) -> Signed
     ensures { λ r. ⌜ rule.sign (drop at (now (s .entry))) ≡ (r .minus, drop (r .next) (now (s .entry))) ⌝ }
     ensures { λ r. ⌜ r .next ≤ length (now (s .entry)) ⌝ }
 {
-    if s.len() <= at {
-        return Signed {
-            minus: false,
-            next: at,
-        };
-    }
-    let b = s[at];
-    if b == b'-' {
+    if text::has(s, at, b'-') {
         return Signed {
             minus: true,
             next: at + 1,
         };
     }
-    if b == b'+' {
+    if text::has(s, at, b'+') {
         return Signed {
             minus: false,
             next: at + 1,
@@ -163,14 +156,7 @@ fn point(s: &[u8], at: usize, from: u64) -> Digits
     requires { ⌜ (at ≤ length (now s)) × (from ≤ 10 ^ 19) ⌝ }
     ensures { λ r. ⌜ Taken (rule.point (drop at (now (s .entry)))) (now (s .entry)) from r ⌝ }
 {
-    if s.len() <= at {
-        return Digits {
-            value: from,
-            count: 0,
-            next: at,
-        };
-    }
-    if s[at] != b'.' {
+    if !text::has(s, at, b'.') {
         return Digits {
             value: from,
             count: 0,
