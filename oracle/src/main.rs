@@ -8,6 +8,7 @@ mod limits;
 mod lines;
 mod readings;
 mod shims;
+mod values;
 
 // The Rust's file names these at its crate's root.
 use shims::{numeric, types, types::ValueRef, LimboError, Result};
@@ -36,7 +37,9 @@ oracle departures < LINES            where the two differ, by name
 oracle generate N SEED [THEME]       lines of one theme or of all: value, modifiers,
                                      strftime, timediff, numbers, damage
 oracle days                          digests of the calendar
-oracle readings LIST                 calls with the documents' answers";
+oracle readings LIST                 calls with the documents' answers
+oracle values LIST                   time values: the list's, and generated ones
+oracle values < VALUES               what julianday and unixepoch give for each";
 
 const BUFFER: usize = 1 << 16;
 
@@ -63,6 +66,8 @@ fn main() -> ExitCode {
         }
         ["days"] => days::run(output).map(|()| true),
         ["readings", list] => Ok(readings::run(list)),
+        ["values", list] => values::list(list, output).map(|()| true),
+        ["values"] => values::answers(input, output).map(|()| true),
         _ => return usage(),
     };
     match good {

@@ -52,8 +52,8 @@ fn parts(entry: &str) -> Option<(&str, &str, &str)> {
     Some((how, call.strip_suffix(' ').unwrap_or(call), answer.strip_prefix(' ').unwrap_or(answer)))
 }
 
-/// The bytes that a text of the list stands for.
-fn bytes(text: &str) -> Vec<u8> {
+/// The bytes that a text of a list stands for.
+pub fn bytes(text: &str) -> Vec<u8> {
     let mut out = Vec::new();
     let mut rest = text.as_bytes();
     while let [first, tail @ ..] = rest {

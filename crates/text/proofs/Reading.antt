@@ -1,21 +1,21 @@
 -- Reading, one thing after another: each law turns what a function of the code answered into the rule's equation, for `rw`. Assumes nothing.
 use Prim.Native.Nat.{ℕ, _+_, _≤_, _<_}
 use Prim.Native.Char.{Char, code}
-use mathlib.Core.Bool.{Bool, true, false, _&&_}
-use mathlib.Core.Logic.{_⊎_, inl, inr, ⊎-elim}
+use mathlib.Core.Bool.{Bool, true, false, true≢false}
 use mathlib.Core.Path.{_≡_, refl, ap, sym, _∙_}
-use mathlib.Core.List.{List, _∷_}
+use mathlib.Core.List.{List, [], _∷_}
+use native.Mathlib.Decide.{decLe}
 use native.Mathlib.Numerals.{add-one}
-use lib.Dec.{eqb, ltb}
+use native.Mathlib.Omega.{arith}
+use lib.Dec.{eqb}
 use lib.ListN.{length, getD, drop, drop-of-length-le}
 use lib.Seq.{drop-cons}
-use borrow.Author.Tests.{eqb-true, eq-eqb, ltb-true, ltb-false}
+use borrow.Author.Tests.{eqb-true, eq-eqb}
 use Rattle.rules.specs.Basics.{Read, got, other, refuse, _>>=_, _or_, onlyIf, ended, byte, past}
 use Rattle.rules.specs.declared.Refusal.{Refusal}
-use Rattle.text.specs.Places.{found, Limits, Told, stands, leads}
+use Rattle.text.specs.Places.{found, Limits, Told, begins, stands, leads}
 use Rattle.text.specs.declared.Found.{Found}
 use Rattle.text.specs.declared.Found.the-variants.{Number}
-use Rattle.text.proofs.Tests.{and-left, and-right}
 
 -- ---- sequence and choice
 module _ {A B : Type 0} {r : Read A} (f : A → Read B) where
@@ -62,31 +62,35 @@ told-of h e = rw e at h
 
 -- ---- one byte: of `has`
 module _ (b : ℕ) (s : List ℕ) (at : ℕ) where
+  -- there is no byte, or the one that is there decides
+  pub stands-past : length s ≤ at → stands b s at ≡ false
+  stands-past h = rw (drop-of-length-le s h)
+
+  pub stands-at : at < length s → stands b s at ≡ eqb b (getD s at 0)
+  stands-at h = rw (drop-cons s at 0 h)
+
   pub stands-inside : stands b s at ≡ true → at < length s
-  unfolding stands
-  stands-inside h = ltb-true at (length s) (and-left (ltb at (length s)) (eqb b (getD s at 0)) h)
+  stands-inside h = go (decLe (length s) at)
+    where
+      go : Dec (length s ≤ at) → at < length s
+      go (yes k) = absurd (true≢false (sym h ∙ stands-past k))
+      go (no k) = omega (arith, k)
 
   pub stands-cons : stands b s at ≡ true → drop at s ≡ b ∷ drop (at + 1) s
-  unfolding stands
   stands-cons h =
-      let e : b ≡ getD s at 0 = eqb-true b (getD s at 0) (and-right (ltb at (length s)) (eqb b (getD s at 0)) h) in
+      let e : b ≡ getD s at 0 = eqb-true b (getD s at 0) (sym (stands-at (stands-inside h)) ∙ h) in
       rw (drop-cons s at 0 (stands-inside h), add-one, e)
-
-  -- there is no byte, or it is another
-  pub stands-not : stands b s at ≡ false → (length s ≤ at) ⊎ ((at < length s) × (eqb b (getD s at 0) ≡ false))
-  unfolding stands
-  stands-not h = go (ltb at (length s)) refl h
-    where
-      go : (t : Bool) → ltb at (length s) ≡ t → t && eqb b (getD s at 0) ≡ false → (length s ≤ at) ⊎ ((at < length s) × (eqb b (getD s at 0) ≡ false))
-      go true k e = inr (ltb-true at (length s) k, e)
-      go false k e = inl (ltb-false at (length s) k)
 
 module _ (c : Char) (s : List ℕ) (at : ℕ) where
   pub byte-got : stands (code c) s at ≡ true → byte c (drop at s) ≡ got (drop (at + 1) s)
   byte-got h = rw (stands-cons (code c) s at h, eq-eqb (code c) (code c) refl)
 
   pub byte-other : stands (code c) s at ≡ false → byte c (drop at s) ≡ other
-  byte-other h = ⊎-elim (λ k. rw (drop-of-length-le s {i = at} k)) (λ k. rw (drop-cons s at 0 (k .0), k .1)) (stands-not (code c) s at h)
+  byte-other h = front (drop at s) h
+    where
+      front : (l : List ℕ) → begins (code c) l ≡ false → byte c l ≡ other
+      front [] e = refl
+      front (b ∷ l) e = rw e
 
 -- ---- a word: of `starts`
 module _ (w s : List ℕ) where

@@ -1,11 +1,11 @@
 -- How the code's places in a slice meet the rules' lists, of which a reader takes the front off: what stands at the place `at` of s is
 -- `drop at s`. Definitions for this crate's contracts.
 use Prim.Native.Nat.{ℕ, _+_, _-_, _≤_, max}
-use mathlib.Core.Bool.{Bool, not, _&&_, _||_}
+use mathlib.Core.Bool.{Bool, false, not, _&&_, _||_}
 use mathlib.Core.Path.{_≡_}
-use mathlib.Core.List.{List}
-use lib.Dec.{eqb, ltb, leb}
-use lib.ListN.{length, getD, take, drop}
+use mathlib.Core.List.{List, [], _∷_}
+use lib.Dec.{eqb, leb}
+use lib.ListN.{length, take, drop}
 use Rattle.rules.specs.Basics.{if_then_else_, is, word, Read, got, other, skip, front}
 use Rattle.rules.specs.Reading.{space}
 use Rattle.rules.specs.Modifiers.{wideSpace}
@@ -18,9 +18,14 @@ use Rattle.text.specs.declared.Kind.the-variants.{Space, Wide, Gap, Word
 abbrev pub part : List ℕ → ℕ → ℕ → List ℕ
 part s a e = take (e - a) (drop a s)
 
--- whether the byte b stands at a place of s
-unfoldable pub stands : ℕ → List ℕ → ℕ → Bool
-stands b s at = ltb at (length s) && eqb b (getD s at 0)
+-- whether the byte b stands at the front
+abbrev pub begins : ℕ → List ℕ → Bool
+begins b [] = false
+begins b (x ∷ s) = eqb b x
+
+-- and at a place of s
+abbrev pub stands : ℕ → List ℕ → ℕ → Bool
+stands b s at = begins b (drop at s)
 
 -- whether s begins with the word w, letters in either case
 unfoldable pub leads : List ℕ → List ℕ → Bool

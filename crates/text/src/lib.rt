@@ -41,7 +41,7 @@ pub fn is_wide(b: u8) -> bool
     is_space(b) || b == 11
 }
 
-// "Between date and time any run of whitespace and `T`": the capital alone.
+// "Between date and time any run of whitespace and `T`": "lower `t` does not" read.
 pub fn is_gap(b: u8) -> bool
     ensures { λ r. ⌜ r ≡ gap b ⌝ }
 {
@@ -105,7 +105,7 @@ pub fn four_digits(s: &[u8], at: usize, lo: u32, hi: u32) -> Found
 }
 
 // How many bytes stand from a place on.
-fn left(s: &[u8], at: usize) -> usize
+pub fn left(s: &[u8], at: usize) -> usize
     ensures { λ r. ⌜ r ≡ length (now (s .entry)) - at ⌝ }
 {
     if at <= s.len() { s.len() - at } else { 0 }

@@ -1,0 +1,59 @@
+-- `moment::Moment::utc` meets its contract.
+use mathlib.Core.Bool.{not}
+use mathlib.Core.Path.{sym, ap, _∙_}
+use Prim.Native.Nat.{_*_, _≤_}
+use native.Mathlib.Omega.{arith}
+use lib.IntN.{natAbs}
+use borrow.Author.Needs.{needs}
+use mir.Syntax.{w64}
+use mir.ValLaws.{toZ-ofZ}
+use Rattle.rules.specs.Moments.{setUtc}
+use Rattle.moment.specs.Held.{held}
+use Rattle.moment.proofs.Chains.{same, then-move, move-fill, moved-as, no-move, filled-as}
+use Rattle.moment.proofs.Modifiers.{step, utc-stays, utc-is}
+use Rattle.moment.proofs.Moment.utc.Statement.{statement}
+use Rattle.moment.proofs.Moment.utc.Tie as tie
+
+returns : tie.Need-returns
+returns c = let d = c .before in no-move (filled-as (sym (utc-stays (d .args .offset) (held (d .args .self)) (c .if1 .taken))) (same (d .args .self) (d .pre .0 .sane)))
+
+way-of-requires : tie.Need-way-of-requires
+way-of-requires c κs = search needs
+
+count-ms-requires : tie.Need-count-ms-requires
+count-ms-requires c κs = search needs
+
+size : (c : tie.After-struct-known2) → c .before .before .before .way-of .result .size ≤ 86399
+size c =
+    let w = c .before .before .before in
+    let d = w .before .before in
+    omega (arith, w .way-of .ensures .1 ∙ ap natAbs (toZ-ofZ w64 _ (d .fits .offset)), d .pre .1)
+
+mul-moved : tie.Need-mul-moved
+mul-moved c = omega (arith, size c)
+
+moved-requires : tie.Need-moved-requires
+moved-requires c κs = (c .before .before .count-ms .ensures .after 15 (c .before .before .before .before .before .pre .0), omega (arith, size c))
+
+known-utc-requires : tie.Need-known-utc-requires
+known-utc-requires c κs = search needs
+
+returns-2 : tie.Need-returns-2
+returns-2 c =
+    let q = c .before .before .before .before in
+    let w = q .before .way-of in
+    let d = q .before .before .before in
+    moved-as (utc-is (d .args .offset) (w .result .minus) (w .result .size) (held (d .args .self)) (sym (toZ-ofZ w64 _ (d .fits .offset)) ∙ w .ensures .0) (q .before .before .if1 .left))
+    (move-fill setUtc (then-move (step (not (w .result .minus)) (w .result .size * 1000)) (q .count-ms .ensures) (c .before .moved .ensures)) (c .known-utc .ensures))
+
+pub utc-spec : {M : Type 1} → statement M
+utc-spec =
+    tie.close
+    (tie.spec
+    returns
+    way-of-requires
+    count-ms-requires
+    mul-moved
+    moved-requires
+    known-utc-requires
+    returns-2)

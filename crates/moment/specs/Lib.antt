@@ -1,0 +1,4 @@
+-- What the contracts cite beside crate rules' definitions.
+pub mod Held
+pub mod Ranges
+pub mod Steps

@@ -1,0 +1,18 @@
+use borrow.Author.Needs.{needs}
+use Rattle.reading.proofs.held_year.Statement.{statement}
+use Rattle.reading.proofs.held_year.Tie as tie
+
+sub-result : tie.Need-sub-result
+sub-result c = search needs
+
+add-result : tie.Need-add-result
+add-result c = search needs
+
+returns : tie.Need-returns
+returns c = rw (c .if1 .taken)
+
+returns-2 : tie.Need-returns-2
+returns-2 c = rw (c .if1 .left)
+
+pub held-year-spec : {M : Type 1} → statement M
+held-year-spec = tie.close (tie.spec sub-result add-result returns returns-2)

@@ -1,0 +1,3 @@
+-- What timediff gives, and what is promised of it.
+pub mod Spans
+pub mod Promise
