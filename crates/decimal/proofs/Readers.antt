@@ -2,21 +2,19 @@
 use mathlib.Core.Path.{_≡_, refl, sym, ap, _∙_}
 use mathlib.Core.Bool.{Bool, true, false, _||_}
 use mathlib.Core.List.{List, [], _∷_, _++_}
-use mathlib.Core.Logic.{_⊎_, inl, inr}
 use Prim.Native.Nat.{ℕ, suc, _+_, _-_, _*_, _^_, _≤_, _<_, zero-le}
 use native.Mathlib.Nat.{min-eq-left, min-le-right}
 use native.Mathlib.Numerals.{add-one}
 use native.Mathlib.Omega.{arith}
 use lib.Ieee.{Float, nan, inf}
 use lib.ListN.{length, getD, drop, drop-of-length-le, length-append}
-use lib.Dec.{eqb}
 use lib.Seq.{drop-cons}
 use Rattle.rules.specs.Basics.{ascii, is, isDigit, word, Read, got, other, ended, _>>=_}
 use Rattle.rules.specs.Decimal.{sign, run, value, point, some, exponent, digitsForm, namedForm}
 use Rattle.real.proofs.Run.{run-step}
-use Rattle.text.specs.Places.{stands}
+use Rattle.text.specs.Places.{begins, stands}
 use Rattle.text.proofs.Bytes.{digit-bounds}
-use Rattle.text.proofs.Reading.{stands-cons, stands-not}
+use Rattle.text.proofs.Reading.{stands-cons}
 use Rattle.decimal.specs.Held.{held, heldExponent, Taken}
 use Rattle.decimal.specs.declared.Digits.{Digits}
 use Rattle.decimal.proofs.Limits.{held-value, value-append, scaled, held-scaled}
@@ -40,17 +38,10 @@ module _ (s : List ℕ) (at : ℕ) where
   unfolding sign
   sign-plus e = rw (stands-cons 43 s at e)
 
-  pub sign-none : stands 45 s at ≡ false → stands 43 s at ≡ false → sign (drop at s) ≡ (false, drop at s)
-  unfolding sign
-  sign-none m p = go (stands-not 45 s at m) (stands-not 43 s at p)
-    where
-      Other : ℕ → Type 0
-      Other b = (length s ≤ at) ⊎ ((at < length s) × (eqb b (getD s at 0) ≡ false))
-
-      go : Other 45 → Other 43 → sign (drop at s) ≡ (false, drop at s)
-      go (inl h) q = rw (at-end s at h)
-      go (inr r) (inl h) = rw (at-end s at h)
-      go (inr r) (inr q) = rw (at-byte s at (r .0), r .1, q .1)
+pub sign-none : (s : List ℕ) → begins 45 s ≡ false → begins 43 s ≡ false → sign s ≡ (false, s)
+unfolding sign
+sign-none [] m p = refl
+sign-none (b ∷ s) m p = rw (m, p)
 
 -- ---- digits
 
@@ -107,17 +98,14 @@ pub taken-none : (of : List ℕ × List ℕ) (s : List ℕ) (at before : ℕ) �
 unfolding value
 taken-none of s at before e h k = rw e (record { number = sym (min-eq-left k); many = refl; few = zero-le; rest = refl; within = h })
 
-module _ (s : List ℕ) (at : ℕ) where
-  pub point-none : stands 46 s at ≡ false → point (drop at s) ≡ ([], drop at s)
-  unfolding point
-  point-none e = elim (stands-not 46 s at e) [
-    | inl h ↦ rw (at-end s at h)
-    | inr r ↦ rw (at-byte s at (r .0), r .1)
-  ]
+pub point-none : (s : List ℕ) → begins 46 s ≡ false → point s ≡ ([], s)
+unfolding point
+point-none [] e = refl
+point-none (b ∷ s) e = rw e
 
-  pub point-some : stands 46 s at ≡ true → point (drop at s) ≡ run (drop (at + 1) s)
-  unfolding point
-  point-some e = rw (stands-cons 46 s at e)
+pub point-some : (s : List ℕ) (at : ℕ) → stands 46 s at ≡ true → point (drop at s) ≡ run (drop (at + 1) s)
+unfolding point
+point-some s at e = rw (stands-cons 46 s at e)
 
 -- ---- an exponent
 
@@ -175,8 +163,8 @@ module _ (minus : Bool) (s : List ℕ) (at : ℕ) (a b : Digits) (o : Taken (run
   abbrev tenths : List ℕ
   tenths = point (drop (a .next) s) .0
 
-  begins : digitsForm minus (drop at s) ≡ form minus ones (point (drop (a .next) s))
-  begins = form-is minus (drop at s) ∙ ap (λ (x : List ℕ). form minus ones (point x)) (o .rest)
+  opens : digitsForm minus (drop at s) ≡ form minus ones (point (drop (a .next) s))
+  opens = form-is minus (drop at s) ∙ ap (λ (x : List ℕ). form minus ones (point x)) (o .rest)
 
   many : length (ones ++ tenths) ≡ a .count + b .count
   many = length-append ones tenths ∙ omega (arith, o .many, p .many)
@@ -185,13 +173,13 @@ module _ (minus : Bool) (s : List ℕ) (at : ℕ) (a b : Digits) (o : Taken (run
   number = ap held (value-append 0 ones tenths) ∙ sym (held-value (value 0 ones) tenths) ∙ ap (λ (x : ℕ). held (value x tenths)) (sym (o .number)) ∙ sym (p .number)
 
   pub digits-none : a .count + b .count ≡ 0 → digitsForm minus (drop at s) ≡ other
-  digits-none h = begins ∙ rw (some-none (ones ++ tenths) (sym h ∙ sym many))
+  digits-none h = opens ∙ rw (some-none (ones ++ tenths) (sym h ∙ sym many))
 
   pub digits-some : (a .count + b .count ≡ 0 → ⊥) → b .count + 22 < 10 ^ 19 → digitsForm minus (drop at s) ≡ _>>=_ (heldExponent (exponent (drop (b .next) s))) (scaled minus (b .value) (b .count))
   digits-some h l =
       let d = value 0 (ones ++ tenths) in
       let e = exponent (drop (b .next) s) in
-      begins
+      opens
       ∙ rw (some-got (ones ++ tenths) (λ z. h (sym many ∙ sym z)), p .rest)
       (ap (λ (n : ℕ). _>>=_ e (scaled minus d n)) (sym (p .many)) ∙ sym (held-scaled minus d (b .count) e l) ∙ ap (λ (n : ℕ). _>>=_ (heldExponent e) (scaled minus n (b .count))) number)
 

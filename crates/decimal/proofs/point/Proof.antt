@@ -1,5 +1,6 @@
 -- `decimal::point` meets its contract. Assumes nothing.
 use denote.Ref.{now}
+use lib.ListN.{drop}
 use mathlib.Core.Path.{_≡_, sym, _∙_}
 use mathlib.Core.Bool.{true}
 use native.Mathlib.Omega.{arith}
@@ -18,7 +19,7 @@ returns : tie.Need-returns
 returns c =
     let a = c .before .before .before .args in
     let p = c .before .before .before .pre in
-    taken-none _ (now (a .s)) (a .at) (a .«from») (point-none (now (a .s)) (a .at) (sym (c .before .has .ensures) ∙ not-true _ (c .if1 .taken))) (p .0) (p .1)
+    taken-none _ (now (a .s)) (a .at) (a .«from») (point-none (drop (a .at) (now (a .s))) (sym (c .before .has .ensures) ∙ not-true _ (c .if1 .taken))) (p .0) (p .1)
 
 stands-point : (c : tie.Else1) → let a = c .before .before .before .args in stands 46 (now (a .s)) (a .at) ≡ true
 stands-point c = sym (c .before .has .ensures) ∙ not-false _ (c .if1 .left)

@@ -1,5 +1,6 @@
 -- `decimal::sign` meets its contract. Assumes nothing.
 use denote.Ref.{now}
+use lib.ListN.{drop}
 use mathlib.Core.Path.{sym, _∙_}
 use native.Mathlib.Omega.{arith}
 use borrow.Author.Needs.{needs}
@@ -35,7 +36,7 @@ returns-2 c =
 returns-3 : tie.Need-returns-3
 returns-3 c =
     let a = c .before .before .before .before .before .args in
-    (sign-none (now (a .s)) (a .at) (sym (c .before .before .before .has .ensures) ∙ c .before .before .if1 .left) (sym (c .before .has2 .ensures) ∙ c .if2 .left), c .before .before .before .before .before .pre)
+    (sign-none (drop (a .at) (now (a .s))) (sym (c .before .before .before .has .ensures) ∙ c .before .before .if1 .left) (sym (c .before .has2 .ensures) ∙ c .if2 .left), c .before .before .before .before .before .pre)
 
 pub sign-spec : {M : Type 1} → statement M
 sign-spec = tie.close (tie.spec has-requires add-t4 returns has-requires-2 add-t6 returns-2 returns-3)
