@@ -1,30 +1,15 @@
--- "D, the digits written without leading zeros, has at most 19" digits: for any n, at most n exactly where D is below 10 ^ n. Assumes nothing.
+-- "D, the digits written without leading zeros, has at most 19": for any n, at most n exactly where D is below 10 ^ n. (What `run` finds are digits: real's run-digits.)
+-- Assumes nothing.
 use mathlib.Core.Path.{_≡_, refl, sym, ap}
-use mathlib.Core.Bool.{Bool, true, false}
 use mathlib.Core.List.{List, [], _∷_}
 use mathlib.Core.Logic.{_↔_}
-use Prim.Native.Nat.{ℕ, suc, _+_, _-_, _*_, _^_, _≤_, _<_}
+use Prim.Native.Nat.{ℕ, suc, _+_, _*_, _^_, _≤_, _<_}
 use native.Mathlib.Nat.{le-trans, le-of-eq, lt-of-lt-of-le, lt-of-not-le, not-le-of-lt, add-zero, zero-add, pow-suc, pow-le-pow-right}
 use native.Mathlib.Omega.{arith}
 use lib.Dec.{lit≤}
 use lib.ListN.{length}
-use Rattle.rules.specs.Basics.{if_then_else_, isDigit}
-use Rattle.rules.specs.Decimal.{run, value}
-use Rattle.decimal.proofs.Readers.{digit-bounds}
-
--- each is a digit
-abbrev pub Digits : List ℕ → Type 0
-Digits [] = Unit {0}
-Digits (d ∷ ds) = (d ≤ 9) × Digits ds
-
-pub run-digits : (s : List ℕ) → Digits (run s .0)
-unfolding run
-run-digits [] = tt
-run-digits (b ∷ s) = go (isDigit b) (digit-bounds b) (run-digits s)
-  where
-    go : (t : Bool) → (t ≡ true → (48 ≤ b) × (b ≤ 57)) → Digits (run s .0) → Digits (if_then_else_ {A = List ℕ × List ℕ} t ((b - 48) ∷ run s .0, run s .1) ([], b ∷ s) .0)
-    go true h ds = let k = h refl in (omega arith, ds)
-    go false h ds = tt
+use Rattle.rules.specs.Decimal.{value}
+use Rattle.real.proofs.Run.{Digits}
 
 -- n digits, and more after them
 below : (ds : List ℕ) (v n : ℕ) → Digits ds → v < 10 ^ n → value v ds < 10 ^ (n + length ds)

@@ -1,18 +1,20 @@
 -- The rules' readers, a step at a time, at a place of a text. Assumes nothing.
 use mathlib.Core.Path.{_≡_, refl, sym, ap, _∙_}
-use mathlib.Core.Bool.{Bool, true, false, _&&_, _||_, true≢false}
+use mathlib.Core.Bool.{Bool, true, false, _||_}
 use mathlib.Core.List.{List, [], _∷_, _++_}
 use Prim.Native.Nat.{ℕ, suc, _+_, _-_, _*_, _^_, _≤_, _<_, zero-le}
-use native.Mathlib.Nat.{min-eq-left, min-le-right, add-assoc}
+use native.Mathlib.Nat.{min-eq-left, min-le-right}
 use native.Mathlib.Numerals.{add-one}
 use native.Mathlib.Omega.{arith}
-use borrow.Author.Tests.{eq-eqb, ne-eqb, leb-true}
 use lib.Ieee.{Float, nan, inf}
 use lib.ListN.{length, getD, drop, drop-of-length-le, length-append}
-use lib.Dec.{eqb, leb}
 use lib.Seq.{drop-cons}
-use Rattle.rules.specs.Basics.{ascii, is, isDigit, lower, word, Read, got, other, ended, _>>=_}
+use Rattle.rules.specs.Basics.{ascii, is, isDigit, word, Read, got, other, ended, _>>=_}
 use Rattle.rules.specs.Decimal.{sign, run, value, point, some, exponent, digitsForm, namedForm}
+use Rattle.real.proofs.Run.{run-step}
+use Rattle.text.specs.Places.{begins, stands}
+use Rattle.text.proofs.Bytes.{digit-bounds}
+use Rattle.text.proofs.Reading.{stands-cons}
 use Rattle.decimal.specs.Held.{held, heldExponent, Taken}
 use Rattle.decimal.specs.declared.Digits.{Digits}
 use Rattle.decimal.proofs.Limits.{held-value, value-append, scaled, held-scaled}
@@ -28,43 +30,24 @@ module _ (s : List ℕ) (at : ℕ) where
 -- ---- a sign
 
 module _ (s : List ℕ) (at : ℕ) where
-  pub sign-end : length s ≤ at → sign (drop at s) ≡ (false, drop at s)
+  pub sign-minus : stands 45 s at ≡ true → sign (drop at s) ≡ (true, drop (at + 1) s)
   unfolding sign
-  sign-end h = rw (at-end s at h)
+  sign-minus e = rw (stands-cons 45 s at e)
 
-  pub sign-minus : at < length s → getD s at 0 ≡ 45 → sign (drop at s) ≡ (true, drop (at + 1) s)
+  pub sign-plus : stands 43 s at ≡ true → sign (drop at s) ≡ (false, drop (at + 1) s)
   unfolding sign
-  sign-minus h e = rw (at-byte s at h, e)
+  sign-plus e = rw (stands-cons 43 s at e)
 
-  pub sign-plus : at < length s → getD s at 0 ≡ 43 → sign (drop at s) ≡ (false, drop (at + 1) s)
-  unfolding sign
-  sign-plus h e = rw (at-byte s at h, e)
-
-  pub sign-none : at < length s → (getD s at 0 ≡ 45 → ⊥) → (getD s at 0 ≡ 43 → ⊥) → sign (drop at s) ≡ (false, drop at s)
-  unfolding sign
-  sign-none h m p = rw (at-byte s at h, ne-eqb 45 (getD s at 0) (λ e. m (sym e)), ne-eqb 43 (getD s at 0) (λ e. p (sym e)))
+pub sign-none : (s : List ℕ) → begins 45 s ≡ false → begins 43 s ≡ false → sign s ≡ (false, s)
+unfolding sign
+sign-none [] m p = refl
+sign-none (b ∷ s) m p = rw (m, p)
 
 -- ---- digits
 
-pub digit-bounds : (b : ℕ) → isDigit b ≡ true → (48 ≤ b) × (b ≤ 57)
-digit-bounds b e = let h = both (leb 48 b) (leb b 57) e in (leb-true 48 b (h .0), leb-true b 57 (h .1))
-  where
-    both : (x y : Bool) → x && y ≡ true → (x ≡ true) × (y ≡ true)
-    both true y e = (refl, e)
-    both false y e = absurd (true≢false (sym e))
-
-module _ (s : List ℕ) (i : ℕ) where
-  run-digit : i < length s → isDigit (getD s i 0) ≡ true → run (drop i s) ≡ ((getD s i 0 - 48) ∷ run (drop (i + 1) s) .0, run (drop (i + 1) s) .1)
-  unfolding run
-  run-digit h e = rw (at-byte s i h, e)
-
-  pub run-other : i < length s → isDigit (getD s i 0) ≡ false → run (drop i s) ≡ ([], drop i s)
-  unfolding run
-  run-other h e = rw (at-byte s i h, e)
-
-  pub run-end : length s ≤ i → run (drop i s) ≡ ([], drop i s)
-  unfolding run
-  run-end h = rw (at-end s i h)
+pub run-other : (s : List ℕ) (i : ℕ) → i < length s → isDigit (getD s i 0) ≡ false → run (drop i s) ≡ ([], drop i s)
+unfolding run
+run-other s i h e = rw (at-byte s i h, e)
 
 -- the digits from `at` up to i are passed, and v is the number held
 pub record Passed (s : List ℕ) (at before i v : ℕ) : Type 0 where
@@ -82,7 +65,8 @@ pub passed-more : (s : List ℕ) (at before i v : ℕ) → i < length s → isDi
 unfolding value
 passed-more s at before i v h e p =
     let d = getD s i 0 - 48 in
-    let r = run-digit s i h e in
+    let (low, high) = digit-bounds (getD s i 0) e in
+    let r = run-step s i h low high in
     let n : length (run (drop i s) .0) ≡ suc (length (run (drop (i + 1) s) .0)) = ap (λ (x : List ℕ × List ℕ). length (x .0)) r in
     record {
       begun = omega (arith, p .begun);
@@ -105,32 +89,6 @@ passed-all s at before i v r p =
       within = p .within;
     }
 
--- ---- a word in either case
-
-pub word-length : (w s : List ℕ) → (length w ≡ length s → ⊥) → word w s ≡ false
-unfolding word
-word-length [] [] h = absurd (h refl)
-word-length [] (b ∷ s) h = refl
-word-length (c ∷ w) [] h = refl
-word-length (c ∷ w) (b ∷ s) h = rw (word-length w s (λ e. h (ap suc e))) (none (eqb c (lower b)))
-  where
-    none : (t : Bool) → t && false ≡ false
-    none true = refl
-    none false = refl
-
-module _ (w s : List ℕ) (i at : ℕ) (h : i < length w) (k : at + i < length s) where
-  pub word-differs : (getD w i 0 ≡ lower (getD s (at + i) 0) → ⊥) → word (drop i w) (drop (at + i) s) ≡ false
-  unfolding word
-  word-differs e = rw (at-byte w i h, at-byte s (at + i) k, ne-eqb _ _ e)
-
-  pub word-more : getD w i 0 ≡ lower (getD s (at + i) 0) → word (drop i w) (drop (at + i) s) ≡ word (drop (i + 1) w) (drop (at + (i + 1)) s)
-  unfolding word
-  word-more e = rw (at-byte w i h, at-byte s (at + i) k, eq-eqb _ _ e, add-assoc)
-
-pub word-end : (w s : List ℕ) (i at : ℕ) → length w ≤ i → length s ≤ at + i → word (drop i w) (drop (at + i) s) ≡ true
-unfolding word
-word-end w s i at h k = rw (at-end w i h, at-end s (at + i) k)
-
 pub taken-small : (of : List ℕ × List ℕ) (s : List ℕ) (before : ℕ) (d : Digits) → Taken of s before d → d .value ≤ 10 ^ 19
 taken-small of s before d t = rw (t .number) (min-le-right (value before (of .0)) (10 ^ 19))
 
@@ -140,18 +98,14 @@ pub taken-none : (of : List ℕ × List ℕ) (s : List ℕ) (at before : ℕ) �
 unfolding value
 taken-none of s at before e h k = rw e (record { number = sym (min-eq-left k); many = refl; few = zero-le; rest = refl; within = h })
 
-module _ (s : List ℕ) (at : ℕ) where
-  pub point-end : length s ≤ at → point (drop at s) ≡ ([], drop at s)
-  unfolding point
-  point-end h = rw (at-end s at h)
+pub point-none : (s : List ℕ) → begins 46 s ≡ false → point s ≡ ([], s)
+unfolding point
+point-none [] e = refl
+point-none (b ∷ s) e = rw e
 
-  pub point-none : at < length s → (getD s at 0 ≡ 46 → ⊥) → point (drop at s) ≡ ([], drop at s)
-  unfolding point
-  point-none h e = rw (at-byte s at h, ne-eqb 46 (getD s at 0) (λ f. e (sym f)))
-
-  pub point-some : at < length s → getD s at 0 ≡ 46 → point (drop at s) ≡ run (drop (at + 1) s)
-  unfolding point
-  point-some h e = rw (at-byte s at h, e)
+pub point-some : (s : List ℕ) (at : ℕ) → stands 46 s at ≡ true → point (drop at s) ≡ run (drop (at + 1) s)
+unfolding point
+point-some s at e = rw (stands-cons 46 s at e)
 
 -- ---- an exponent
 
@@ -209,8 +163,8 @@ module _ (minus : Bool) (s : List ℕ) (at : ℕ) (a b : Digits) (o : Taken (run
   abbrev tenths : List ℕ
   tenths = point (drop (a .next) s) .0
 
-  begins : digitsForm minus (drop at s) ≡ form minus ones (point (drop (a .next) s))
-  begins = form-is minus (drop at s) ∙ ap (λ (x : List ℕ). form minus ones (point x)) (o .rest)
+  opens : digitsForm minus (drop at s) ≡ form minus ones (point (drop (a .next) s))
+  opens = form-is minus (drop at s) ∙ ap (λ (x : List ℕ). form minus ones (point x)) (o .rest)
 
   many : length (ones ++ tenths) ≡ a .count + b .count
   many = length-append ones tenths ∙ omega (arith, o .many, p .many)
@@ -219,13 +173,13 @@ module _ (minus : Bool) (s : List ℕ) (at : ℕ) (a b : Digits) (o : Taken (run
   number = ap held (value-append 0 ones tenths) ∙ sym (held-value (value 0 ones) tenths) ∙ ap (λ (x : ℕ). held (value x tenths)) (sym (o .number)) ∙ sym (p .number)
 
   pub digits-none : a .count + b .count ≡ 0 → digitsForm minus (drop at s) ≡ other
-  digits-none h = begins ∙ rw (some-none (ones ++ tenths) (sym h ∙ sym many))
+  digits-none h = opens ∙ rw (some-none (ones ++ tenths) (sym h ∙ sym many))
 
   pub digits-some : (a .count + b .count ≡ 0 → ⊥) → b .count + 22 < 10 ^ 19 → digitsForm minus (drop at s) ≡ _>>=_ (heldExponent (exponent (drop (b .next) s))) (scaled minus (b .value) (b .count))
   digits-some h l =
       let d = value 0 (ones ++ tenths) in
       let e = exponent (drop (b .next) s) in
-      begins
+      opens
       ∙ rw (some-got (ones ++ tenths) (λ z. h (sym many ∙ sym z)), p .rest)
       (ap (λ (n : ℕ). _>>=_ e (scaled minus d n)) (sym (p .many)) ∙ sym (held-scaled minus d (b .count) e l) ∙ ap (λ (n : ℕ). _>>=_ (heldExponent e) (scaled minus n (b .count))) number)
 

@@ -15,8 +15,7 @@ ghost use mathlib.Core.Bool.{_||_};
 ghost use Prim.Native.Nat.{_+_, _*_, _^_, _≤_, _<_, min};
 ghost use lib.ListN.{length, drop};
 ghost use lib.Ieee.{neg};
-ghost use Rattle.rules.specs.Basics.{if_then_else_, is, isDigit};
-ghost use Rattle.rules.specs.Basics.{lower as Basics·lower, word as Basics·word};
+ghost use Rattle.rules.specs.Basics.{if_then_else_, is};
 ghost use Rattle.rules.specs.Decimal as rule;
 ghost use Rattle.decimal.specs.AsRead.{asRead};
 ghost use Rattle.decimal.specs.Held.{asExponent, held, heldExponent, Taken};
@@ -43,7 +42,7 @@ pub fn decimal(s: &[u8]) -> Number
     let t = sign(s, 0);
     let minus = t.minus;
     let at = t.next;
-    match named(s, at, minus) {
+    match named(&s[at..], minus) {
         Number::NotOne => digits_form(s, at, minus),
         Number::Over => Number::Over,
         Number::Is(x) => Number::Is(x),
@@ -61,20 +60,13 @@ fn sign(s: &[u8], at: usize) -> Signed
     ensures { λ r. ⌜ rule.sign (drop at (now (s .entry))) ≡ (r .minus, drop (r .next) (now (s .entry))) ⌝ }
     ensures { λ r. ⌜ r .next ≤ length (now (s .entry)) ⌝ }
 {
-    if s.len() <= at {
-        return Signed {
-            minus: false,
-            next: at,
-        };
-    }
-    let b = s[at];
-    if b == b'-' {
+    if text::has(s, at, b'-') {
         return Signed {
             minus: true,
             next: at + 1,
         };
     }
-    if b == b'+' {
+    if text::has(s, at, b'+') {
         return Signed {
             minus: false,
             next: at + 1,
@@ -93,50 +85,19 @@ fn with_sign(minus: bool, x: f64) -> f64
 }
 
 // "inf, infinity, nan", in either case.
-fn named(s: &[u8], at: usize, minus: bool) -> Number
-    requires { ⌜ at ≤ length (now s) ⌝ }
-    ensures { λ r. ⌜ asRead r ≡ rule.namedForm minus (drop at (now (s .entry))) ⌝ }
+fn named(s: &[u8], minus: bool) -> Number
+    ensures { λ r. ⌜ asRead r ≡ rule.namedForm minus (now (s .entry)) ⌝ }
 {
-    if is_word(s, at, b"inf") {
+    if text::is_word(s, b"inf") {
         return Number::Is(with_sign(minus, 1.0 / 0.0));
     }
-    if is_word(s, at, b"infinity") {
+    if text::is_word(s, b"infinity") {
         return Number::Is(with_sign(minus, 1.0 / 0.0));
     }
-    if is_word(s, at, b"nan") {
+    if text::is_word(s, b"nan") {
         return Number::Is(0.0 / 0.0);
     }
     Number::NotOne
-}
-
-// Whether the bytes from `at` on are the word w, which is written in small letters.
-fn is_word(s: &[u8], at: usize, w: &[u8]) -> bool
-    requires { ⌜ at ≤ length (now s) ⌝ }
-    ensures { λ r. ⌜ r ≡ Basics·word (now (w .entry)) (drop at (now (s .entry))) ⌝ }
-{
-    if s.len() - at != w.len() {
-        return false;
-    }
-    let mut i = 0;
-    while i < w.len() {
-        if w[i] != lower(s[at + i]) {
-            return false;
-        }
-        i += 1;
-    }
-    true
-}
-
-fn lower(b: u8) -> u8
-    ensures { λ r. ⌜ r ≡ Basics·lower b ⌝ }
-{
-    if b < 65 {
-        return b;
-    }
-    if 90 < b {
-        return b;
-    }
-    b + 32
 }
 
 // "digits with an optional point, at least one digit; optional exponent"
@@ -173,7 +134,7 @@ fn run(s: &[u8], at: usize, from: u64) -> Digits
     let mut i = at;
     while i < s.len() {
         let b = s[i];
-        if !is_digit(b) {
+        if !text::is_digit(b) {
             return Digits {
                 value,
                 count: i - at,
@@ -195,14 +156,7 @@ fn point(s: &[u8], at: usize, from: u64) -> Digits
     requires { ⌜ (at ≤ length (now s)) × (from ≤ 10 ^ 19) ⌝ }
     ensures { λ r. ⌜ Taken (rule.point (drop at (now (s .entry)))) (now (s .entry)) from r ⌝ }
 {
-    if s.len() <= at {
-        return Digits {
-            value: from,
-            count: 0,
-            next: at,
-        };
-    }
-    if s[at] != b'.' {
+    if !text::has(s, at, b'.') {
         return Digits {
             value: from,
             count: 0,
@@ -210,12 +164,6 @@ fn point(s: &[u8], at: usize, from: u64) -> Digits
         };
     }
     run(s, at + 1, from)
-}
-
-fn is_digit(b: u8) -> bool
-    ensures { λ r. ⌜ r ≡ isDigit b ⌝ }
-{
-    48 <= b && b <= 57
 }
 
 // The cast stands in a function of its own, which needs no proof that a byte of a slice fits.

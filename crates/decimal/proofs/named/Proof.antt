@@ -2,7 +2,6 @@
 use denote.Ref.{now}
 use mathlib.Core.Path.{_≡_, refl, sym, ap, _∙_}
 use mathlib.Core.Bool.{Bool, true, false}
-use lib.ListN.{drop}
 use borrow.Author.Needs.{needs}
 use lib.Ieee.{Float, inf, binary64, ofBits, div, neg}
 use Rattle.rules.specs.Basics.{if_then_else_, ascii, word, got}
@@ -33,7 +32,7 @@ returns : tie.Need-returns
 returns c =
     let a = c .before .before .before .before .before .args in
     ap got (c .with-sign .ensures ∙ infinite (a .minus) _ one-by-zero)
-    ∙ sym (named-inf (a .minus) (drop (a .at) (now (a .s))) (sym (c .before .before .is-word .ensures) ∙ c .before .if1 .taken))
+    ∙ sym (named-inf (a .minus) (now (a .s)) (sym (c .before .before .is-word .ensures) ∙ c .before .if1 .taken))
 
 slice-aggregate-is-word-2 : tie.Need-slice-aggregate-is-word-2
 slice-aggregate-is-word-2 c = search needs
@@ -44,14 +43,14 @@ is-word-requires-2 c κs = search needs
 with-sign-requires-2 : tie.Need-with-sign-requires-2
 with-sign-requires-2 c κs = search needs
 
-no-inf : (c : tie.Else1) → let a = c .before .before .before .before .args in word (ascii "inf") (drop (a .at) (now (a .s))) ≡ false
+no-inf : (c : tie.Else1) → let a = c .before .before .before .before .args in word (ascii "inf") (now (a .s)) ≡ false
 no-inf c = sym (c .before .is-word .ensures) ∙ c .if1 .left
 
 returns-2 : tie.Need-returns-2
 returns-2 c =
     let a = c .before .before .before .before .before .before .before .before .args in
     ap got (c .with-sign2 .ensures ∙ infinite (a .minus) _ one-by-zero)
-    ∙ sym (named-infinity (a .minus) (drop (a .at) (now (a .s))) (no-inf (c .before .before .before .before)) (sym (c .before .before .is-word2 .ensures) ∙ c .before .if2 .taken))
+    ∙ sym (named-infinity (a .minus) (now (a .s)) (no-inf (c .before .before .before .before)) (sym (c .before .before .is-word2 .ensures) ∙ c .before .if2 .taken))
 
 slice-aggregate-is-word-3 : tie.Need-slice-aggregate-is-word-3
 slice-aggregate-is-word-3 c = search needs
@@ -59,19 +58,19 @@ slice-aggregate-is-word-3 c = search needs
 is-word-requires-3 : tie.Need-is-word-requires-3
 is-word-requires-3 c κs = search needs
 
-no-infinity : (c : tie.Else2) → let a = c .before .before .before .before .before .before .before .args in word (ascii "infinity") (drop (a .at) (now (a .s))) ≡ false
+no-infinity : (c : tie.Else2) → let a = c .before .before .before .before .before .before .before .args in word (ascii "infinity") (now (a .s)) ≡ false
 no-infinity c = sym (c .before .is-word2 .ensures) ∙ c .if2 .left
 
 returns-3 : tie.Need-returns-3
 unfolding div ofBits
 returns-3 c =
     let a = c .before .before .before .before .before .before .before .before .before .before .args in
-    sym (named-nan (a .minus) (drop (a .at) (now (a .s))) (no-inf (c .before .before .before .before .before .before)) (no-infinity (c .before .before .before)) (sym (c .before .is-word3 .ensures) ∙ c .if3 .taken))
+    sym (named-nan (a .minus) (now (a .s)) (no-inf (c .before .before .before .before .before .before)) (no-infinity (c .before .before .before)) (sym (c .before .is-word3 .ensures) ∙ c .if3 .taken))
 
 returns-4 : tie.Need-returns-4
 returns-4 c =
     let a = c .before .before .before .before .before .before .before .before .before .before .args in
-    sym (named-none (a .minus) (drop (a .at) (now (a .s))) (no-inf (c .before .before .before .before .before .before)) (no-infinity (c .before .before .before)) (sym (c .before .is-word3 .ensures) ∙ c .if3 .left))
+    sym (named-none (a .minus) (now (a .s)) (no-inf (c .before .before .before .before .before .before)) (no-infinity (c .before .before .before)) (sym (c .before .is-word3 .ensures) ∙ c .if3 .left))
 
 pub named-spec : {M : Type 1} → statement M
 named-spec =

@@ -9,7 +9,9 @@ use borrow.Author.Tests.{not-true, not-false}
 use lib.ListN.{length, getD}
 use Rattle.rules.specs.Basics.{isDigit}
 use Rattle.decimal.specs.Held.{held}
-use Rattle.decimal.proofs.Readers.{Passed, passed-none, passed-more, passed-all, run-other, run-end, digit-bounds}
+use Rattle.real.proofs.Run.{run-end}
+use Rattle.text.proofs.Bytes.{digit-bounds}
+use Rattle.decimal.proofs.Readers.{Passed, passed-none, passed-more, passed-all, run-other}
 use Rattle.decimal.proofs.run.Statement.{statement}
 use Rattle.decimal.proofs.run.Tie as tie
 
