@@ -22,7 +22,7 @@ use Rattle.calendar.proofs.Instants.{start-is, date-of, time-high}
 use Rattle.calendar.proofs.Years.{days-high, month-low}
 use Rattle.real.specs.InMinute.{inMinute}
 use Rattle.real.specs.StepMost.{stepMost}
-use Rattle.real.proofs.Within.{and-right}
+use Rattle.real.proofs.Tests.{and-right}
 use Rattle.real.proofs.Seconds.{minute-ms, filled-minute}
 use Rattle.real.proofs.Epoch.{julian-ms}
 use Rattle.moment.specs.Ranges.{sumTakes, TimeIn, TimeRead, Sane, ReadYear, Near, After, Ranged, Full}

@@ -11,7 +11,7 @@ use Rattle.rules.specs.Calendar.{year, minusYear, instant, last, inRange, midni
 use Rattle.calendar.specs.Ranges.{MonthDay, Countable}
 use Rattle.moment.specs.Ranges.{sumTakes}
 use Rattle.moment.proofs.Branches.{either, by-test}
-use Rattle.real.proofs.Within.{and-left, and-right}
+use Rattle.real.proofs.Tests.{and-left, and-right}
 use Rattle.rules.specs.Reading.{timed, isJulian, julianMs, rawNumber}
 use Rattle.rules.specs.declared.Time.{Time}
 use Rattle.rules.specs.Moments.{Moment, blank, failure, noZone, counted, clear, setMs, setDate, setDated, setTime, setTimed, setZone, setRaw, setUtc, timeMs, withTime, sumOf, countMs, onDate, fillDate, onTime, fillTime}
