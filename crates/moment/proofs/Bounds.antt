@@ -25,7 +25,7 @@ use Rattle.real.specs.StepMost.{stepMost}
 use Rattle.real.proofs.Tests.{and-right}
 use Rattle.real.proofs.Seconds.{minute-ms, filled-minute}
 use Rattle.real.proofs.Epoch.{julian-ms}
-use Rattle.moment.specs.Ranges.{sumTakes, TimeIn, TimeRead, Sane, ReadYear, Near, After, Ranged, Full}
+use Rattle.moment.specs.Ranges.{sumTakes, TimeIn, TimeRead, Sane, ReadYear, Near, After, mostBefore, Ranged, Full}
 use Rattle.moment.specs.Steps.{firstOfMonth, firstOfYear}
 use Rattle.moment.proofs.Branches.{never, either, by-test}
 use Rattle.moment.proofs.Steps.{taken, already, in-range, count-cases, date-cases, time-cases}
@@ -36,9 +36,9 @@ use Rattle.moment.proofs.Ways.{move-back}
 pub near-more : (m n t : ℕ) → m ≤ n → Near m t → Near n t
 near-more m n t h k = omega arith
 
--- "With 16 modifiers the milliseconds stay within 64 bits."
-pub near-fits : (n t : ℕ) → n ≤ 16 → Near n t → (0 < t) × (t < 2 ^ 64)
-near-fits n t h k = omega arith
+-- "With 16 modifiers the milliseconds stay within 64 bits": before the last there is room for one more step either way.
+pub near-room : (t k : ℕ) → Near mostBefore t → k ≤ stepMost → (k < t) × (t + k < 2 ^ 64)
+near-room t k h l = omega arith
 
 pub near-moved : (n t k : ℕ) (b : Bool) → k ≤ stepMost → Near n t → Near (n + 1) (move t (signed b k) 1)
 near-moved n t k false h a = omega arith

@@ -11,7 +11,7 @@ use Rattle.real.specs.StepMost.{stepMost}
 use Rattle.moment.specs.declared.Moment.{Moment}
 use Rattle.moment.specs.declared.Step.the-variants.{Next, Refused}
 use Rattle.moment.specs.Held.{held}
-use Rattle.moment.specs.Ranges.{Sane, After, Movable, Filled, Moved, Answered}
+use Rattle.moment.specs.Ranges.{Sane, After, mostBefore, Movable, Filled, Moved, Answered}
 use Rattle.moment.proofs.Bounds.{after-more, Kept, kept-same, clear-kept, count-fresh, moved-after}
 
 -- ---- the rules' step, and the code's that hands the same record back
@@ -44,7 +44,7 @@ module _ {u q : Moment} (s : Sane (held u)) (c : (held u) .counted ≡ false) (f
   fresh = subst (λ (x : rule.Moment). After 0 x) (sym (f .is)) (count-fresh (held u) s c)
 
   pub fresh-movable : Movable (held q)
-  fresh-movable = after-more 0 15 (held q) (omega arith) fresh
+  fresh-movable = after-more 0 mostBefore (held q) (omega arith) fresh
 
   pub fresh-move : (p : Moment) {r : Moment} (g : rule.Moment → rule.Moment) → Moved q r (g (held q)) → Moved p r (g (rule.countMs (held u)))
   fresh-move p {r} g m = record { is = m .is ∙ ap g (f .is); sane = m .sane; after = λ n a. after-more 1 (n + 1) (held r) (omega arith) (m .after 0 fresh) }

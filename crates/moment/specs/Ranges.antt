@@ -56,9 +56,13 @@ pub record After (n : ℕ) (p : rule.Moment) : Type 0 where
   pub years : p .dated ≡ true → ReadYear (p .year)
   pub near : Near n (p .ms)
 
--- before the last of "over 16 modifiers" is read: a further one may move the milliseconds, and they fit 64 bits
+-- "over 16 modifiers" are refused: the most that come before another
+abbrev pub mostBefore : ℕ
+mostBefore = 15
+
+-- so another may move the milliseconds, and they still fit 64 bits
 abbrev pub Movable : rule.Moment → Type 0
-Movable p = After 15 p
+Movable p = After mostBefore p
 
 -- a record that passed the final range
 pub record Ranged (p : rule.Moment) : Type 0 where

@@ -20,6 +20,7 @@ mod modify;
 mod signs;
 
 pub struct Moment {
+    // milliseconds from noon of -4713-11-24
     pub ms: u64,
     pub year: u32,
     pub month: u32,
@@ -28,6 +29,7 @@ pub struct Moment {
     pub minute: u32,
     // or a number as it was given
     pub second: f64,
+    // minutes east of UTC
     pub zone: u32,
     // the days by which the day lies past its month's end
     pub over: u32,
@@ -191,11 +193,13 @@ impl Moment {
         if self.zone == NO_ZONE {
             return self;
         }
+        // no zone, held as 1440 minutes, is 86400000 ms
         let zone = self.zone as u64 * 60000;
         self.ms = self.ms + 86400000 - zone;
         self.clear().known_utc()
     }
 
+    // Where the fields are not summed, the error record is left.
     fn sum_of(mut self, year: u32, month: u32, day: u32) -> Moment
         requires { ⌜ Sane (held self) × MonthDay month day ⌝ }
         ensures { λ r. ⌜ held r ≡ rule.sumOf (held self) year month day ⌝ }
@@ -208,6 +212,7 @@ impl Moment {
         self.with_time()
     }
 
+    // The milliseconds, where they do not stand: of the date, or of 2000-01-01.
     pub fn count_ms(self) -> Moment
         requires { ⌜ Sane (held self) ⌝ }
         ensures { λ r. ⌜ Filled self r (rule.countMs (held self)) ⌝ }
@@ -223,6 +228,7 @@ impl Moment {
 
     // ---- fields from milliseconds: the Rust's compute_ymd and compute_hms
 
+    // "Milliseconds to fields takes 0 to the last"; out of it the error record is left.
     pub fn fill_date(self) -> Moment
         requires { ⌜ Sane (held self) ⌝ }
         ensures { λ r. ⌜ Filled self r (rule.fillDate (held self)) ⌝ }
@@ -246,7 +252,6 @@ impl Moment {
 
     // The time of day t milliseconds after midnight.
     fn on_time(mut self, t: u32) -> Moment
-        requires { ⌜ Sane (held self) × (t < 86400000) ⌝ }
         ensures { λ r. ⌜ held r ≡ rule.onTime (held self) t ⌝ }
     {
         self.hour = t / 3600000;

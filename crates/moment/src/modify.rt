@@ -1,7 +1,7 @@
 // The modifiers' steps: what each does to the record. Which modifier a text is, and the numbers in it, are read elsewhere.
 //
-// A step that moves the milliseconds takes a record that at most 15 modifiers came to (`Movable`), and says that the next has come to one
-// more (`Moved`); one that only fills says that it is no further (`Filled`).
+// A step that moves the milliseconds takes a record to which at most 15 modifiers came before (`Movable`), and one more has come to what it
+// hands back (`Moved`). One that only fills takes any, and hands back one that is no further (`Filled`).
 ghost use mathlib.Core.Path.{_≡_};
 ghost use mathlib.Core.Bool.{true, false, _||_};
 ghost use mathlib.Core.List.{[]};
@@ -16,19 +16,18 @@ ghost use Rattle.real.specs.StepMost.{stepMost};
 ghost use Rattle.moment.specs.Held.{held};
 ghost use Rattle.moment.specs.Ranges.{ReadYear, Sane, Movable, Filled, Moved, Answered, Ranged, Lands};
 ghost use Rattle.moment.specs.Steps.{lengthOn, monthsOn, timeOn, firstOfMonth, firstOfYear};
+use crate::LAST;
 use crate::Moment;
+use crate::NO_ZONE;
 use crate::Step;
+use crate::ZERO;
 use crate::signs;
 use rules::Refusal;
 
 // The milliseconds of a day.
 const DAY: u64 = 86400000;
 
-// The millisecond 0 and the last, and the start of -4713-11-23, a Sunday.
-const ZERO: u64 = 9223372036854775808;
-
-const LAST: u64 = 9223836305915575807;
-
+// The start of -4713-11-23, a Sunday.
 const SUNDAY: u64 = 9223372036725175808;
 
 // The days on to the next day n of the week (0 is Sunday), none if t is one. Before SUNDAY the Rust's quotient and remainder, cut toward
@@ -204,7 +203,7 @@ impl Moment {
         p.moved(false, days_on(n as u64, p.ms) * DAY)
     }
 
-    // Whether there is anything that begins.
+    // Whether there is anything of which a day could begin.
     pub fn stands(self) -> bool
         ensures { λ r. ⌜ r ≡ (self .counted || (self .dated || self .timed)) ⌝ }
     {
@@ -228,7 +227,7 @@ impl Moment {
         p.timed = true;
         p.raw = false;
         p.counted = false;
-        p.zone = 1440;
+        p.zone = NO_ZONE;
         p.over = 0;
         p
     }

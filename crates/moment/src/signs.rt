@@ -1,4 +1,4 @@
-// Numbers with a sign: how far and which way, and months below 1 and above 12.
+// Numbers with a sign: which way and how far, and months below 1 and above 12.
 ghost use mathlib.Core.Path.{_≡_};
 ghost use Prim.Native.Nat.{_+_, _*_, _-_, _/_, _%_, _≤_, _<_};
 ghost use lib.IntN.{pos, natAbs, _-ℤ_};
@@ -7,12 +7,13 @@ ghost use Rattle.rules.specs.Modifiers.{signed};
 ghost use Rattle.rules.specs.Writing.{floorDiv};
 ghost use Rattle.moment.specs.Ranges.{ReadYear};
 
-// Back or forward, and how far.
+// Back after a minus, else forward, and how far.
 pub struct Way {
     pub minus: bool,
     pub size: u64,
 }
 
+// -1 - n fits for every n below 0, where -n need not.
 pub fn way_of(n: i64) -> Way
     ensures { λ r. ⌜ (n ≡ signed (r .minus) (r .size)) × (r .size ≡ natAbs n) ⌝ }
 {
@@ -29,6 +30,7 @@ pub fn way_of(n: i64) -> Way
     }
 }
 
+// The same the other way round.
 pub fn along(minus: bool, size: u32) -> i64
     ensures { λ r. ⌜ r ≡ signed minus size ⌝ }
 {
@@ -54,7 +56,7 @@ fn carry(month: i64) -> i64
     }
 }
 
-// The month of its own year.
+// A month counted from January of a year, which is 1, as a month of its own year. The contract counts months from the year held as 0.
 pub fn in_year(year: u32, month: i64) -> YearMonth
     requires { ⌜ ReadYear year × (natAbs month ≤ 176557) ⌝ }
     ensures { λ r. ⌜ (r .year ≡ rule.move (year * 12 - 1) month 1 / 12) × (r .month ≡ rule.move (year * 12 - 1) month 1 % 12 + 1) ⌝ }

@@ -11,7 +11,7 @@ use Rattle.rules.specs.Calendar.{dayLength}
 use Rattle.rules.specs.Moments.{Moment, countMs, fill, pastEnd, shift, setCounted}
 use Rattle.rules.specs.Modifiers.{signed, byDate}
 use Rattle.moment.specs.Held.{held}
-use Rattle.moment.specs.Ranges.{ReadYear}
+use Rattle.moment.specs.Ranges.{ReadYear, mostBefore}
 use Rattle.moment.proofs.Bounds.{fill-year}
 use Rattle.moment.proofs.Chains.{fresh-movable, fresh-move, moved-as}
 use Rattle.moment.proofs.Modifiers.{step}
@@ -48,7 +48,7 @@ shift-requires c κs =
     let u = c .before .uncounted .ensures in
     let f = c .before .before .fill .ensures in
     let d = c .before .before .before in
-    let year = subst (λ (p : Moment). ReadYear (p .year)) (sym (u .is ∙ ap (λ (q : Moment). setCounted q false) (f .is))) (fill-year 15 (held (d .args .self)) (d .pre .0)) in
+    let year = subst (λ (p : Moment). ReadYear (p .year)) (sym (u .is ∙ ap (λ (q : Moment). setCounted q false) (f .is))) (fill-year mostBefore (held (d .args .self)) (d .pre .0)) in
     rw (read c .0) (u .sane, year, omega (arith, read c .1))
 
 past-end-requires : tie.Need-past-end-requires

@@ -8,6 +8,7 @@ use mir.ValLaws.{toZ-ofZ}
 use Rattle.rules.specs.Moments.{moved, setOver}
 use Rattle.moment.specs.Held.{held}
 use Rattle.moment.specs.Steps.{lengthOn}
+use Rattle.moment.specs.Ranges.{mostBefore}
 use Rattle.moment.proofs.Chains.{then-move, move-fill, moved-as}
 use Rattle.moment.proofs.Modifiers.{step}
 use Rattle.moment.proofs.Moment.by_length.Statement.{statement}
@@ -22,7 +23,7 @@ count-ms-requires c κs = search needs
 moved-requires : tie.Need-moved-requires
 moved-requires c κs =
     let d = c .before .before in
-    (c .count-ms .ensures .after 15 (d .pre .0), omega (arith, c .before .way-of .ensures .1 ∙ ap natAbs (toZ-ofZ w64 _ (d .fits .ms)), d .pre .1))
+    (c .count-ms .ensures .after mostBefore (d .pre .0), omega (arith, c .before .way-of .ensures .1 ∙ ap natAbs (toZ-ofZ w64 _ (d .fits .ms)), d .pre .1))
 
 not-over-requires : tie.Need-not-over-requires
 not-over-requires c κs = search needs

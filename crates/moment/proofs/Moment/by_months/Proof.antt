@@ -12,7 +12,7 @@ use Rattle.rules.specs.Floats.{cut}
 use Rattle.rules.specs.Moments.{Moment, clear, moved, countMs, fill, pastEnd, shift, setCounted}
 use Rattle.rules.specs.Modifiers.{signed, fractionMs}
 use Rattle.moment.specs.Held.{held}
-use Rattle.moment.specs.Ranges.{ReadYear}
+use Rattle.moment.specs.Ranges.{ReadYear, mostBefore}
 use Rattle.moment.proofs.Bounds.{fill-year}
 use Rattle.moment.proofs.Chains.{fresh-movable, fresh-move, moved-as}
 use Rattle.moment.proofs.Modifiers.{step, shift-times}
@@ -47,7 +47,7 @@ mul-shift c = rw (product c .0) (sfits _ (omega (arith, product c .1)))
 shift-requires : tie.Need-shift-requires
 shift-requires c κs =
     let f = c .before .fill .ensures in
-    let year = subst (λ (p : Moment). ReadYear (p .year)) (sym (f .is)) (fill-year 15 (held (c .before .before .args .self)) (c .before .before .pre .0)) in
+    let year = subst (λ (p : Moment). ReadYear (p .year)) (sym (f .is)) (fill-year mostBefore (held (c .before .before .args .self)) (c .before .before .pre .0)) in
     rw (product c .0, read c) (f .sane, year, product c .1)
 
 past-end-requires : tie.Need-past-end-requires

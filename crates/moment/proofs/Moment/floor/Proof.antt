@@ -6,6 +6,7 @@ use borrow.Author.Needs.{needs}
 use Rattle.rules.specs.Calendar.{dayLength}
 use Rattle.rules.specs.Moments.{setOver}
 use Rattle.moment.specs.Held.{held}
+use Rattle.moment.specs.Ranges.{mostBefore}
 use Rattle.moment.proofs.Chains.{then-move, move-fill, moved-as}
 use Rattle.moment.proofs.Modifiers.{step, floor-is}
 use Rattle.moment.proofs.Moment.floor.Statement.{statement}
@@ -21,7 +22,7 @@ mul-moved : tie.Need-mul-moved
 mul-moved c = search needs
 
 moved-requires : tie.Need-moved-requires
-moved-requires c κs = let q = c .before .count-ms .ensures in (q .after 15 (c .before .before .pre), omega (arith, q .sane .overs))
+moved-requires c κs = let q = c .before .count-ms .ensures in (q .after mostBefore (c .before .before .pre), omega (arith, q .sane .overs))
 
 not-over-requires : tie.Need-not-over-requires
 not-over-requires c κs = search needs

@@ -8,6 +8,7 @@ use Rattle.rules.specs.Calendar.{dayLength}
 use Rattle.rules.specs.Moments.{countMs, setCounted}
 use Rattle.rules.specs.Modifiers.{daysOn}
 use Rattle.moment.specs.Held.{held}
+use Rattle.moment.specs.Ranges.{mostBefore}
 use Rattle.moment.proofs.Chains.{then-fill, then-move, moved-as}
 use Rattle.moment.proofs.Modifiers.{step, weekday-is}
 use Rattle.moment.proofs.Moment.to_weekday.Statement.{statement}
@@ -31,7 +32,7 @@ mul-moved c = search needs
 moved-requires : tie.Need-moved-requires
 moved-requires c κs =
     let q = c .before in
-    (q .count-ms .ensures .after 15 (q .before .uncounted .ensures .after 15 (q .before .before .fill .ensures .after 15 (q .before .before .before .pre .0))), omega (arith, c .days-on .ensures .1))
+    (q .count-ms .ensures .after mostBefore (q .before .uncounted .ensures .after mostBefore (q .before .before .fill .ensures .after mostBefore (q .before .before .before .pre .0))), omega (arith, c .days-on .ensures .1))
 
 returns : tie.Need-returns
 returns c =

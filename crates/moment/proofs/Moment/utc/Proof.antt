@@ -9,6 +9,7 @@ use mir.Syntax.{w64}
 use mir.ValLaws.{toZ-ofZ}
 use Rattle.rules.specs.Moments.{setUtc}
 use Rattle.moment.specs.Held.{held}
+use Rattle.moment.specs.Ranges.{mostBefore}
 use Rattle.moment.proofs.Chains.{same, then-move, move-fill, moved-as, no-move, filled-as}
 use Rattle.moment.proofs.Modifiers.{step, utc-stays, utc-is}
 use Rattle.moment.proofs.Moment.utc.Statement.{statement}
@@ -33,7 +34,7 @@ mul-moved : tie.Need-mul-moved
 mul-moved c = omega (arith, size c)
 
 moved-requires : tie.Need-moved-requires
-moved-requires c κs = (c .before .before .count-ms .ensures .after 15 (c .before .before .before .before .before .pre .0), omega (arith, size c))
+moved-requires c κs = (c .before .before .count-ms .ensures .after mostBefore (c .before .before .before .before .before .pre .0), omega (arith, size c))
 
 known-utc-requires : tie.Need-known-utc-requires
 known-utc-requires c κs = search needs
