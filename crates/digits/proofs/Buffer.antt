@@ -29,12 +29,15 @@ laid-then {a} {b} {c} {xs} {ys} {at} {o} {r} p q = record {
   bytes = q .bytes ∙ ap (λ (k : ℕ). sets b k ys) (p .place) ∙ ap (λ (l : List ℕ). sets l (at + length xs) ys) (p .bytes) ∙ sets-append a at xs ys;
 }
 
+pub laid-length : {a b xs : List ℕ} {at o : ℕ} → Laid a at xs b o → length b ≡ length a
+laid-length {a} {b} {xs} {at} l = ap length (l .bytes) ∙ length-sets a at xs
+
 -- room for two texts is room for the first, and for the second after it
 pub room-first : {a : List ℕ} {at : ℕ} (xs ys : List ℕ) → Room a at (xs ++ ys) → Room a at xs
 room-first xs ys h = record { fits = omega (arith, h .fits, length-append xs ys) }
 
 pub room-then : {a b xs ys : List ℕ} {at o : ℕ} → Laid a at xs b o → Room a at (xs ++ ys) → Room b o ys
-room-then {a} {b} {xs} {ys} {at} l h = record { fits = omega (arith, h .fits, l .place, length-append xs ys, ap length (l .bytes) ∙ length-sets a at xs) }
+room-then {a} {b} {xs} {ys} {at} l h = record { fits = omega (arith, h .fits, l .place, length-append xs ys, laid-length l) }
 
 -- a text by another name
 pub laid-as : {a b xs ys : List ℕ} {at r : ℕ} → xs ≡ ys → Laid a at xs b r → Laid a at ys b r

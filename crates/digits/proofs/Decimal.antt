@@ -68,6 +68,9 @@ length-wide n v = length-places (max n (width 19 v)) v
 pub length-exact : (n v : ℕ) → n ≤ 19 → v < 10 ^ suc n → length (wide (suc n) v) ≡ suc n
 length-exact n v l h = ap length (wide-places n v l h) ∙ length-places (suc n) v
 
+pub length-most : (m n v : ℕ) → n ≤ 19 → m ≤ suc n → v < 10 ^ suc n → length (wide m v) ≤ suc n
+length-most m n v l k h = omega (arith, length-wide m v, width-most 19 n v l h)
+
 pub wide-length : (n v : ℕ) → places (length (wide n v)) v ≡ wide n v
 unfolding wide
 wide-length n v = ap (λ (k : ℕ). places k v) (length-places (max n (width 19 v)) v)

@@ -8,3 +8,4 @@ pub mod Signs
 pub mod Texts
 pub mod Trim
 pub mod Floats
+pub mod Lengths

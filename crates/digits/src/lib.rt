@@ -242,7 +242,7 @@ pub fn short_year_length(year: u32) -> usize
 }
 
 // A point, and the three lowest decimal places of a number of thousandths.
-fn put_point(buf: &mut [u8], at: usize, t: u64) -> usize
+pub fn put_point(buf: &mut [u8], at: usize, t: u64) -> usize
     requires { ⌜ Room (now buf) at (46 ∷ text.places 3 t) ⌝ }
     ensures { λ r. ⌜ Laid (now (buf .entry)) at (46 ∷ text.places 3 t) (now (buf .exit)) r ⌝ }
 {

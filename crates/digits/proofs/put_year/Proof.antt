@@ -1,20 +1,29 @@
 -- `digits::put_year` meets its contract. Assumes nothing.
-use mathlib.Core.Path.{sym}
+use Prim.Native.Nat.{_-_}
+use mathlib.Core.Path.{_≡_, sym}
+use mathlib.Core.List.{_∷_}
 use native.Mathlib.Omega.{arith}
 use borrow.Author.Needs.{needs}
+use Rattle.rules.specs.Writing.{wide, signedYear}
 use Rattle.digits.proofs.Texts.{year-plain, year-minus}
 use Rattle.digits.proofs.Buffer.{room-as, laid-as}
 use Rattle.digits.proofs.put_year.Statement.{statement}
 use Rattle.digits.proofs.put_year.Tie as tie
 
+plain : (c : tie.Then1) → let a = c .before .before .args in signedYear (a .k) (a .year) ≡ wide 4 (a .year - 40000)
+plain c = year-plain _ _ (c .if1 .taken)
+
+minus : (c : tie.Else1) → let a = c .before .before .args in signedYear (a .k) (a .year) ≡ 45 ∷ wide (a .k) (40000 - a .year)
+minus c = year-minus _ _ (c .if1 .left)
+
 put-four-requires : tie.Need-put-four-requires
-put-four-requires c κs = let s = c .before .before .before in (omega arith, room-as (year-plain (s .args .k) (s .args .year) (c .before .if1 .taken)) (s .pre .1))
+put-four-requires c κs = let s = c .before .before .before in (omega arith, room-as (plain (c .before)) (s .pre .1))
 
 same-length : tie.Need-same-length
 same-length c = search needs
 
 returns : tie.Need-returns
-returns c = let s = c .before .before .before .before .before .before in laid-as (sym (year-plain (s .args .k) (s .args .year) (c .before .before .before .before .if1 .taken))) (c .before .before .put-four .ensures)
+returns c = laid-as (sym (plain (c .before .before .before .before))) (c .before .before .put-four .ensures)
 
 sub-put-minus : tie.Need-sub-put-minus
 sub-put-minus c = search needs
@@ -23,13 +32,13 @@ cast-put-minus : tie.Need-cast-put-minus
 cast-put-minus c = search needs
 
 put-minus-requires : tie.Need-put-minus-requires
-put-minus-requires c κs = let s = c .before .before .before in room-as (year-minus (s .args .k) (s .args .year) (c .before .if1 .left)) (s .pre .1)
+put-minus-requires c κs = room-as (minus (c .before)) (c .before .before .before .pre .1)
 
 same-length-2 : tie.Need-same-length-2
 same-length-2 c = search needs
 
 returns-2 : tie.Need-returns-2
-returns-2 c = let s = c .before .before .before .before .before .before in laid-as (sym (year-minus (s .args .k) (s .args .year) (c .before .before .before .before .if1 .left))) (c .before .before .put-minus .ensures)
+returns-2 c = laid-as (sym (minus (c .before .before .before .before))) (c .before .before .put-minus .ensures)
 
 pub put-year-spec : {M : Type 1} → statement M
 put-year-spec =
