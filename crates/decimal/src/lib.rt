@@ -49,13 +49,14 @@ pub fn decimal(s: &[u8]) -> Number
     }
 }
 
-struct Signed {
-    minus: bool,
-    next: usize,
+// Whether a minus stood there, and the place after the sign.
+pub struct Signed {
+    pub minus: bool,
+    pub next: usize,
 }
 
 // "optional sign"
-fn sign(s: &[u8], at: usize) -> Signed
+pub fn sign(s: &[u8], at: usize) -> Signed
     requires { ⌜ at ≤ length (now s) ⌝ }
     ensures { λ r. ⌜ rule.sign (drop at (now (s .entry))) ≡ (r .minus, drop (r .next) (now (s .entry))) ⌝ }
     ensures { λ r. ⌜ r .next ≤ length (now (s .entry)) ⌝ }

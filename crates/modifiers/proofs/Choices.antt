@@ -1,5 +1,5 @@
 -- The branch that a test picks. Assumes nothing.
-use mathlib.Core.Bool.{Bool, true, false, _||_}
+use mathlib.Core.Bool.{Bool, true, false, _&&_, _||_}
 use mathlib.Core.Path.{_≡_, refl}
 use Rattle.rules.specs.Basics.{if_then_else_}
 
@@ -17,3 +17,11 @@ module _ {t : Bool} (u : Bool) where
 
   pub or-else : t ≡ false → (t || u) ≡ u
   or-else h = rw h
+
+-- both of two tests
+module _ {t x : Bool} (u : Bool) where
+  pub and-then : t ≡ true → x ≡ u → x ≡ (t && u)
+  and-then h e = rw h e
+
+  pub and-else : t ≡ false → x ≡ false → x ≡ (t && u)
+  and-else h e = rw h e

@@ -1,19 +1,26 @@
 -- One modifier is the step of its kind; a unit's step is that of its name. Assumes nothing.
-use Prim.Native.Nat.{ℕ, zero, suc}
-use mathlib.Core.Bool.{Bool, true, false, _&&_, _||_}
+use Prim.Native.Nat.{ℕ, zero, suc, _≤_}
+use mathlib.Core.Bool.{Bool, true, false, _&&_, _||_, true≢false}
 use mathlib.Core.Path.{_≡_, refl, sym, ap, _∙_}
 use mathlib.Core.List.{List, [], _∷_}
+use native.Mathlib.Decide.{decLe}
+use native.Mathlib.Omega.{arith}
+use lib.Dec.{eqb}
 use lib.IntN.{ℤ}
 use lib.Ieee.{Float, eq}
-use lib.ListN.{drop}
-use Rattle.rules.specs.Basics.{if_then_else_, ascii, word, beside, past, onlyIf, trim, Read, got, other, refuse, _or_, _>>=_}
+use lib.ListN.{length, drop}
+use borrow.Author.Tests.{eqb-true}
+use Rattle.rules.specs.Basics.{if_then_else_, every, ascii, word, beside, past, onlyIf, trim, Read, got, other, refuse, _or_, _>>=_}
 use Rattle.rules.specs.Decimal.{decimal}
 use Rattle.rules.specs.Floats.{number, whole, within}
 use Rattle.rules.specs.Moments.{Moment, setSubsec}
-use Rattle.rules.specs.Modifiers.{provided, orNull, first, words, starts, units, counts, wideSpace, auto, julian, fromEpoch, isUnix, unix, ceiling, floor, localtime, utc, weekday, startOf, arithmetic, modifier, byLength, byMonths}
+use Rattle.rules.specs.Modifiers.{provided, orNull, first, words, starts, units, counts, wideSpace, auto, julian, fromEpoch, isUnix, unix, ceiling, floor, localtime, utc, weekday, dayStart, startOf, arithmetic, modifier, byLength, byMonths}
 use Rattle.rules.specs.declared.Refusal.{Refusal}
 use Rattle.text.specs.Places.{leads}
-use Rattle.modifiers.specs.Words.{kinds, kindOf, orUnknown, unitNames, unitOf, orNone}
+use Rattle.text.proofs.Tests.{and-left, and-right}
+use Rattle.text.proofs.Words.{leads-short}
+use Rattle.moment.specs.Steps.{firstOfMonth, firstOfYear}
+use Rattle.modifiers.specs.Words.{kinds, kindOf, orUnknown, unitNames, unitOf, orNone, stepBy}
 use Rattle.modifiers.specs.declared.words.Kind.{Kind}
 use Rattle.modifiers.specs.declared.words.Unit.{Unit}
 
@@ -125,16 +132,54 @@ module _ (offset : ℤ) (i : ℕ) (s : List ℕ) (p : Moment) where
   unfolding modifier kindOf leads
   by-kind = rw words-by (in-order (beside kinds s) (leads (ascii "weekday ") s) (leads (ascii "start of ") s) (counts s) (found kinds s))
 
--- ---- the step of each unit
-abbrev pub stepBy : Unit → Float → Moment → Read Moment
-stepBy Unit.Day = byLength (number 5373485) (number 86400000)
-stepBy Unit.Hour = byLength (number 128970000000) (number 3600000)
-stepBy Unit.Minute = byLength (number 7737900000000) (number 60000)
-stepBy Unit.Second = byLength (number 464270000000000) (number 1000)
-stepBy Unit.Month = byMonths (number 176546) 1 (number 30)
-stepBy Unit.Year = byMonths (number 14713) 12 (number 365)
-stepBy Unit.Unknown = λ n p. other
+pub of-kind : {k : Kind} (offset : ℤ) (i : ℕ) (s : List ℕ) (p : Moment) → kindOf s ≡ k → modifier offset i s p ≡ stepOf k offset i s p
+of-kind offset i s p e = by-kind offset i s p ∙ ap (λ (k : Kind). stepOf k offset i s p) e
 
+-- ---- what follows a word that leads begins inside
+
+abbrev pub restFrom : Kind → ℕ
+restFrom Kind.Auto = 0
+restFrom Kind.Julianday = 0
+restFrom Kind.Unixepoch = 0
+restFrom Kind.Ceiling = 0
+restFrom Kind.Floor = 0
+restFrom Kind.Localtime = 0
+restFrom Kind.Utc = 0
+restFrom Kind.Subsec = 0
+restFrom Kind.Weekday = 8
+restFrom Kind.Start = 9
+restFrom Kind.Count = 0
+restFrom Kind.Unknown = 0
+
+-- of a word alone there is no rest
+alone : (rows : List (List ℕ × Kind)) (s : List ℕ) → every (λ row. eqb (restFrom (row .1)) 0) rows ≡ true → restFrom (orUnknown (beside rows s)) ≡ 0
+unfolding beside every
+alone [] s h = refl
+alone (row ∷ rows) s h = go (word (row .0) s) (eqb-true _ _ (and-left _ _ h)) (alone rows s (and-right (eqb (restFrom (row .1)) 0) _ h))
+  where
+    go : (t : Bool) → restFrom (row .1) ≡ 0 → restFrom (orUnknown (beside rows s)) ≡ 0 → restFrom (orUnknown (if t then got (row .1) else beside rows s)) ≡ 0
+    go true a b = a
+    go false a b = b
+
+leads-inside : (w s : List ℕ) → leads w s ≡ true → length w ≤ length s
+leads-inside w s h = go (decLe (length w) (length s))
+  where
+    go : Dec (length w ≤ length s) → length w ≤ length s
+    go (yes k) = k
+    go (no k) = absurd (true≢false (sym h ∙ leads-short w s (omega (arith, k))))
+
+pub rest-inside : (s : List ℕ) → restFrom (kindOf s) ≤ length s
+unfolding kindOf every
+rest-inside s = go (beside kinds s) (leads (ascii "weekday ") s) (leads (ascii "start of ") s) (counts s) (alone kinds s refl) (leads-inside (ascii "weekday ") s) (leads-inside (ascii "start of ") s) (found kinds s)
+  where
+    go : (r : Read Kind) (t u v : Bool) → restFrom (orUnknown r) ≡ 0 → (t ≡ true → 8 ≤ length s) → (u ≡ true → 9 ≤ length s) → Found r → restFrom (orUnknown (r or (onlyIf t Kind.Weekday or (onlyIf u Kind.Start or onlyIf v Kind.Count)))) ≤ length s
+    go (got k) t u v z a b f = omega arith
+    go other true u v z a b f = a refl
+    go other false true v z a b f = b refl
+    go other false false true z a b f = omega arith
+    go other false false false z a b f = omega arith
+
+-- ---- the step of each unit
 pub by-unit : (w : List ℕ) (n : Float) (p : Moment) → _>>=_ (beside units w) (λ f. f n p) ≡ stepBy (unitOf w) n p
 unfolding unitOf
 by-unit w n p = ap (λ (r : Read (Float → Moment → Read Moment)). _>>=_ r (λ f. f n p)) (beside-by stepBy unitNames w) ∙ go (beside unitNames w) (found unitNames w)
@@ -142,3 +187,35 @@ by-unit w n p = ap (λ (r : Read (Float → Moment → Read Moment)). _>>=_ r (�
     go : (r : Read Unit) → Found r → _>>=_ (_>>=_ r (λ u. got (stepBy u))) (λ f. f n p) ≡ stepBy (orNone r) n p
     go (got u) f = refl
     go other f = refl
+
+-- ---- what is to begin
+
+-- whether there is anything that begins
+abbrev Stands : Moment → Bool
+Stands p = p .counted || (p .dated || p .timed)
+
+module _ (s : List ℕ) (p : Moment) where
+  pub start-not : Stands p ≡ false → startOf s p ≡ refuse Refusal.Null
+  unfolding startOf
+  start-not h = rw h (go (beside starts s) (found starts s))
+    where
+      go : (r : Read (Moment → Moment)) → Found r → _>>=_ (orNull r) (λ f. provided false (f (dayStart p))) ≡ refuse Refusal.Null
+      go (got f) k = refl
+      go other k = refl
+
+  module _ (h : Stands p ≡ true) where
+    pub start-day : word (ascii "day") s ≡ true → startOf s p ≡ got (dayStart p)
+    unfolding startOf beside
+    start-day a = rw (h, a)
+
+    pub start-month : word (ascii "day") s ≡ false → word (ascii "month") s ≡ true → startOf s p ≡ got (firstOfMonth (dayStart p))
+    unfolding startOf beside
+    start-month a b = rw (h, a, b)
+
+    pub start-year : word (ascii "day") s ≡ false → word (ascii "month") s ≡ false → word (ascii "year") s ≡ true → startOf s p ≡ got (firstOfYear (dayStart p))
+    unfolding startOf beside
+    start-year a b c = rw (h, a, b, c)
+
+  pub start-none : word (ascii "day") s ≡ false → word (ascii "month") s ≡ false → word (ascii "year") s ≡ false → startOf s p ≡ refuse Refusal.Null
+  unfolding startOf beside
+  start-none a b c = rw (a, b, c)

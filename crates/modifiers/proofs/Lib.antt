@@ -11,3 +11,9 @@ pub mod Written
 pub mod Shifts
 -- a modifier is the step of its kind
 pub mod Dispatch
+-- what a modifier hands back
+pub mod Answers
+-- the forms of a modifier that counts
+pub mod Forms
+-- the walk through the buffer
+pub mod Walks

@@ -1,2 +1,5 @@
+-- What the contracts cite beside crate rules' definitions.
 pub mod Buffer
 pub mod Words
+pub mod Times
+pub mod Stepped

@@ -2,8 +2,11 @@
 use Prim.Native.Nat.{ℕ}
 use mathlib.Core.Bool.{Bool, _||_}
 use mathlib.Core.List.{List, [], _∷_}
+use lib.Ieee.{Float}
 use Rattle.rules.specs.Basics.{if_then_else_, ascii, is, isDigit, word, beside, Read, got, other, refuse, _or_, onlyIf}
-use Rattle.rules.specs.Modifiers.{counts, named}
+use Rattle.rules.specs.Floats.{number}
+use Rattle.rules.specs.Moments.{Moment}
+use Rattle.rules.specs.Modifiers.{counts, named, byLength, byMonths}
 use Rattle.text.specs.Places.{leads}
 use Rattle.modifiers.specs.declared.words.Kind.{Kind}
 use Rattle.modifiers.specs.declared.words.Unit.{Unit}
@@ -64,3 +67,13 @@ unitOf s = orNone (beside unitNames s)
 
 abbrev pub unitM : List ℕ → Unit
 unitM s = if word (ascii "minute") s || word (ascii "minutes") s then Unit.Minute else (if word (ascii "month") s || word (ascii "months") s then Unit.Month else Unit.Unknown)
+
+-- the step that stands beside a unit
+abbrev pub stepBy : Unit → Float → Moment → Read Moment
+stepBy Unit.Day = byLength (number 5373485) (number 86400000)
+stepBy Unit.Hour = byLength (number 128970000000) (number 3600000)
+stepBy Unit.Minute = byLength (number 7737900000000) (number 60000)
+stepBy Unit.Second = byLength (number 464270000000000) (number 1000)
+stepBy Unit.Month = byMonths (number 176546) 1 (number 30)
+stepBy Unit.Year = byMonths (number 14713) 12 (number 365)
+stepBy Unit.Unknown = λ n p. other

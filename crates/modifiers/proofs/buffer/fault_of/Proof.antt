@@ -6,8 +6,8 @@ use native.Mathlib.Omega.{arith}
 use lib.ListN.{length, drop}
 use borrow.Author.Needs.{needs}
 use Rattle.rules.specs.Basics.{if_then_else_}
-use Rattle.modifiers.specs.declared.buffer.Fault.the-variants.{Bytes, Nothing}
 use Rattle.modifiers.specs.Buffer.{faultOf}
+use Rattle.modifiers.specs.declared.buffer.Fault.the-variants.{Bytes, Nothing}
 use Rattle.modifiers.proofs.Entries.{faultFrom, fault-start, fault-zero, fault-many, fault-byte, fault-high, fault-long, fault-open, fault-end}
 use Rattle.modifiers.proofs.buffer.fault_of.Tie as tie
 use Rattle.modifiers.proofs.buffer.fault_of.Statement.{statement}
