@@ -1,0 +1,140 @@
+// What is tested before anything is read, and what is then read: the moment of a call, or timediff's two instants.
+//
+// "2, 3, 4 are tested first, in that order, over all arguments, whether used or not. Then 1 and 5 as reading meets them: time value
+// (timediff's first, then its second), modifiers left to right, final range."
+ghost use mathlib.Core.Path.{_≡_};
+ghost use mathlib.Core.Bool.{Bool, not, false};
+ghost use Prim.Native.Nat.{_≤_};
+ghost use lib.ListN.{length};
+ghost use Rattle.rules.specs.Calls.{valueOf, bytesOf, over, high, modifiersBad, badSetting, call, strftime};
+ghost use Rattle.rules.specs.Functions as rule;
+ghost use Rattle.rules.specs.declared.Function.{Function};
+ghost use Rattle.moment.specs.Held.{held};
+ghost use Rattle.moment.specs.Ranges.{readOf, Lands};
+ghost use Rattle.datetime.specs.Opened.{opened, Ready};
+use modifiers::buffer;
+use modifiers::buffer::Fault;
+use moment::Step;
+use rules::Given;
+use rules::Refusal;
+use rules::Setting;
+ghost use Rattle.datetime.specs.Faults.{faultIn, eitherOf, gated};
+
+// What refuses a text of at most `most` bytes: refusal 2, refusal 3, or nothing.
+fn fault_of_text(s: &[u8], most: usize) -> Fault
+    ensures { λ r. ⌜ r ≡ faultIn (over most (now (s .entry))) (high (now (s .entry))) ⌝ }
+{
+    if s.len() > most {
+        return Fault::Shape;
+    }
+    if text::is_ascii(s) {
+        return Fault::Nothing;
+    }
+    Fault::Bytes
+}
+
+// And a time value. What stands beside a value that is no bytes is not looked at.
+fn fault_of_value(given: Given, s: &[u8]) -> Fault
+    ensures { λ r. ⌜ r ≡ faultIn (over 255 (bytesOf (valueOf given (now (s .entry))))) (high (bytesOf (valueOf given (now (s .entry))))) ⌝ }
+{
+    let Given::Bytes = given else {
+        return Fault::Nothing;
+    };
+    fault_of_text(s, 255)
+}
+
+// 2 of either before 3 of either.
+fn either(a: Fault, b: Fault) -> Fault
+    ensures { λ r. ⌜ r ≡ eitherOf a b ⌝ }
+{
+    match a {
+        Fault::Shape => Fault::Shape,
+        Fault::Nothing => b,
+        Fault::Bytes => bytes_or(b),
+    }
+}
+
+fn bytes_or(b: Fault) -> Fault
+    ensures { λ r. ⌜ r ≡ eitherOf Fault.Bytes b ⌝ }
+{
+    let Fault::Shape = b else {
+        return Fault::Bytes;
+    };
+    Fault::Shape
+}
+
+// Whether a call is let through to reading.
+enum Gate {
+    Open,
+    Refused(Refusal),
+}
+
+// 4: "clock above 253402300799999, or offset outside -86399 to 86399"
+fn is_bad(set: Setting) -> bool
+    ensures { λ r. ⌜ r ≡ badSetting set ⌝ }
+{
+    if set.clock > 253402300799999 {
+        return true;
+    }
+    if set.offset > 86399 {
+        return true;
+    }
+    set.offset < -86399
+}
+
+fn tested(fault: Fault, set: Setting) -> Gate
+    ensures { λ r. ⌜ r ≡ gated fault set ⌝ }
+{
+    match fault {
+        Fault::Shape => Gate::Refused(Refusal::Shape),
+        Fault::Bytes => Gate::Refused(Refusal::Bytes),
+        Fault::Nothing => {
+            if is_bad(set) {
+                return Gate::Refused(Refusal::Setting);
+            }
+            Gate::Open
+        }
+    }
+}
+
+// ---- one time value
+
+// "time value, modifiers left to right, final range"
+fn read(set: Setting, given: Given, value: &[u8], modifiers: &[u8]) -> Step
+    requires { ⌜ (over 255 (bytesOf (valueOf given (now value))) ≡ false) × (modifiersBad (now modifiers) ≡ false) × (badSetting set ≡ false) ⌝ }
+    ensures { λ r. ⌜ readOf r ≡ rule.momentOf set (valueOf given (now (value .entry))) (now (modifiers .entry)) ⌝ }
+    ensures { λ r. ⌜ Lands Ready r ⌝ }
+{
+    match reading::time_value(given, value, set.clock) {
+        Step::Next(p) => match modifiers::modified(set.offset, modifiers, p) {
+            Step::Next(q) => q.ranged(),
+            Step::Refused(r) => Step::Refused(r),
+        },
+        Step::Refused(r) => Step::Refused(r),
+    }
+}
+
+// The moment that a call of one time value is about.
+pub fn moment_of(set: Setting, given: Given, value: &[u8], modifiers: &[u8]) -> Step
+    ensures { λ r. ⌜ readOf r ≡ opened set (call Function.Date (valueOf given (now (value .entry))) (now (modifiers .entry))) (rule.momentOf set (valueOf given (now (value .entry))) (now (modifiers .entry))) ⌝ }
+    ensures { λ r. ⌜ Lands Ready r ⌝ }
+{
+    let fault = either(fault_of_value(given, value), buffer::fault_of(modifiers));
+    match tested(fault, set) {
+        Gate::Open => read(set, given, value, modifiers),
+        Gate::Refused(r) => Step::Refused(r),
+    }
+}
+
+// And where a format stands before it.
+pub fn moment_for(set: Setting, format: &[u8], given: Given, value: &[u8], modifiers: &[u8]) -> Step
+    ensures { λ r. ⌜ readOf r ≡ opened set (strftime (now (format .entry)) (valueOf given (now (value .entry))) (now (modifiers .entry))) (rule.momentOf set (valueOf given (now (value .entry))) (now (modifiers .entry))) ⌝ }
+    ensures { λ r. ⌜ Lands Ready r ⌝ }
+    ensures { λ r. ⌜ Lands (λ _. length (now (format .entry)) ≤ 1024) r ⌝ }
+{
+    let others = either(fault_of_value(given, value), buffer::fault_of(modifiers));
+    match tested(either(fault_of_text(format, 1024), others), set) {
+        Gate::Open => read(set, given, value, modifiers),
+        Gate::Refused(r) => Step::Refused(r),
+    }
+}
