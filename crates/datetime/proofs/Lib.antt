@@ -1,0 +1,7 @@
+-- Laws of what a call is, once nothing refuses it.
+-- the tests before reading, and what is then read
+pub mod Opened
+-- what is given back of an outcome: a text in the lent buffer, or a refusal
+pub mod Given
+-- from the moment to the outcome
+pub mod Answers
