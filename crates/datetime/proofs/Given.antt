@@ -1,4 +1,4 @@
--- What is given back of an outcome: a text that was laid in the lent buffer, its length where it finds no room, or a refusal. Assumes nothing.
+-- What is given back of an outcome: a text laid in the lent buffer, its length where it has no room, or a refusal. Assumes nothing.
 use Prim.Native.Nat.{ℕ, _+_, _*_, _≤_, _<_}
 use mathlib.Core.List.{List, [], _∷_, _++_}
 use mathlib.Core.Path.{_≡_, refl, sym, ap, _∙_, subst}
