@@ -5,3 +5,5 @@ pub mod Opened
 pub mod Faults
 -- the moment of a call
 pub mod Moments
+-- timediff's two instants
+pub mod Instants
