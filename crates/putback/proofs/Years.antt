@@ -63,6 +63,10 @@ unfolding spans.between
 same-between true a b = omega (arith, its-month a, its-month b)
 same-between false a b = omega (arith, its-month a, its-month b)
 
+pub between-high : (plus : Bool) (a b : Instant) → between plus a b ≤ 119999
+between-high true a b = omega (arith, month-limits a, month-limits b)
+between-high false a b = omega (arith, month-limits a, month-limits b)
+
 -- a shift up to them leads to a month of the years 0 to 9999
 pub shift-in-range : (plus : Bool) (a b : Instant) (n : ℕ) → n ≤ between plus a b → InRange (spans.shifted plus (at b) n)
 unfolding spans.shifted inMonth
