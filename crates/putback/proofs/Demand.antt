@@ -1,23 +1,22 @@
 -- Demand 3, as specs/Demand.antt says it. Assumes nothing.
-use Prim.Native.Nat.{ℕ, _+_, _*_, _/_, _%_, _≤_, _<_}
-use mathlib.Core.Bool.{Bool, true, false, _||_}
-use mathlib.Core.Path.{_≡_, refl, sym, ap, _∙_, subst}
-use mathlib.Core.List.{List, [], _∷_, _++_, append-nil}
+use Prim.Native.Nat.{ℕ, _*_, _/_, _≤_, _<_}
+use mathlib.Core.Bool.{Bool, true, false}
+use mathlib.Core.Path.{_≡_, refl, sym, ap, _∙_}
+use mathlib.Core.List.{List, [], _∷_, append-nil}
 use native.Mathlib.Omega.{arith}
 use borrow.Author.Tests.{le-ltb}
 use lib.ListN.{length, drop-of-length-le}
-use Rattle.rules.specs.Basics.{if_then_else_, ascii, every, got}
+use Rattle.rules.specs.Basics.{every, got}
 use Rattle.rules.specs.Calendar.{year, dayLength, civil}
-use Rattle.rules.specs.Calls.{Call, call, strftime, timediff, Outcome, text, modifiers, lastEnded, modifiersBad, badShape, high, badBytes, badSetting, answered, after}
+use Rattle.rules.specs.Calls.{Call, call, strftime, timediff, text, modifiers, lastEnded, modifiersBad, badShape, high, badBytes, badSetting, answered, after}
 use Rattle.rules.specs.Functions.{momentOf, renewed, reading, settle, answer}
 use Rattle.rules.specs.Moments.{Moment, fill}
 use Rattle.rules.specs.Writing.{difference}
 use Rattle.rules.specs.declared.Setting.{Setting}
 use Rattle.rules.specs.declared.Function.{Function}
 use Rattle.rules.specs.declared.Answer.{Answer}
-use Rattle.calendar.specs.Ranges.{InRange}
 use Rattle.reading.specs.Written.{written}
-use Rattle.timediff.specs.Promise.{StandsFor, Counts, Past, putBack, Promise}
+use Rattle.timediff.specs.Promise.{StandsFor, putBack, Promise}
 use Rattle.timediff.specs.Spans.{Toward, shifted, span, spanText}
 use Rattle.timediff.specs.Spans as spans
 use Rattle.timediff.specs.declared.Span.{Span}
@@ -25,7 +24,7 @@ use Rattle.timediff.proofs.Answer as timediff
 use Rattle.timediff.proofs.Promise.{keeps}
 use Rattle.timediff.proofs.PutBack.{as-filled, shifts}
 use Rattle.timediff.proofs.Text.{years-high, bytes-24}
-use Rattle.putback.specs.Demand.{Instant, value, at, between, alone, shiftBy, Reaches, Kept, Demand3}
+use Rattle.putback.specs.Demand.{Instant, value, at, between, alone, shiftBy, Demand3}
 use Rattle.putback.proofs.Texts.{in-written, in-shift, not-high, not-high-alone, one-alone, good-alone}
 use Rattle.putback.proofs.Years.{lies-in-range, its-date, same-between, between-high, shift-in-range}
 use Rattle.putback.proofs.Reached.{by-itself, with-one, shift-is, difference-read}
@@ -182,8 +181,8 @@ demand-3 set ok a b =
       holds = holding a b set ok;
       only-one = one-alone (in-shift plus months (shift a b .rest));
       reaches = record { moment = landed a b set; reads = put-back a b set; there = P .reach .ms-is };
-      as-A = functions a b set;
-      as-A-in = formatted-alike a b set;
+      answers-as-A = functions a b set;
+      formats-as-A = formatted-alike a b set;
       sign = P .sign;
       up-to = up-to-months a b;
       stays = record { moment = putBack plus months 0 (fields b); reads = by-months a b set months (up-to-months a b); there = P .stays };

@@ -1,25 +1,23 @@
 -- What a record shows: filled from its milliseconds, or with fields as they were read. Assumes nothing.
-use Prim.Native.Nat.{ℕ, _+_, _*_, _/_, _%_, _≤_, _<_}
+use Prim.Native.Nat.{ℕ, _+_, _*_, _/_, _%_, _≤_}
 use mathlib.Core.Bool.{Bool, true, false}
 use mathlib.Core.Path.{_≡_, refl, sym, ap, _∙_, subst}
-use mathlib.Core.List.{List, [], _∷_}
+use mathlib.Core.List.{[]}
 use native.Mathlib.Decide.{decLe}
 use native.Mathlib.Omega.{arith}
-use Rattle.rules.specs.Basics.{move}
-use Rattle.rules.specs.Calendar.{inRange, dayLength, timeOfDay, civil}
+use Rattle.rules.specs.Calendar.{inRange, timeOfDay, civil}
 use Rattle.rules.specs.Floats.{number, whole, decimals, _⊘_}
 use Rattle.rules.specs.Functions.{renewed}
-use Rattle.rules.specs.Moments.{Moment, counted, setDated, countMs, onDate, onTime, fillDate, fillTime, fill, pastEnd, shift}
+use Rattle.rules.specs.Moments.{Moment, counted, setDated, countMs, onDate, onTime, fillTime, fill, pastEnd, shift}
 use Rattle.rules.specs.Modifiers.{byDate}
 use Rattle.rules.specs.declared.Ymd.{Ymd}
 use Rattle.calendar.specs.Ranges.{InRange}
-use Rattle.calendar.proofs.Instants.{time-high}
 use Rattle.moment.proofs.Modifiers.{renew-not, renew}
 use Rattle.moment.proofs.Steps.{already, in-range, count-cases, date-stands, date-filled, time-stands, time-filled}
 use Rattle.reading.proofs.Stamps.{digits-of}
 use Rattle.timediff.specs.Promise.{Counts, putBack}
 use Rattle.putback.specs.Demand.{Instant, at}
-use Rattle.putback.proofs.Years.{timeIn, lies-in-range, its-date, its-time}
+use Rattle.putback.proofs.Years.{lies-in-range, its-date, its-time}
 use Rattle.putback.proofs.Given.{fields}
 use Rattle.putback.proofs.Seconds.{Prints, as-read, as-filled}
 use Rattle.putback.proofs.Shown.{Shows}

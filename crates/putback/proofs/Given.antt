@@ -1,10 +1,8 @@
 -- An instant that is written in full reads to fields that stand for it. Assumes nothing.
-use Prim.Native.Nat.{ℕ, _+_, _*_, _≤_, _<_}
-use mathlib.Core.Bool.{Bool, true, false}
-use mathlib.Core.Path.{_≡_, refl, sym, ap, _∙_, subst}
+use Prim.Native.Nat.{ℕ, _+_}
+use mathlib.Core.Path.{_≡_, refl, subst}
 use native.Mathlib.Omega.{arith}
-use Rattle.rules.specs.Basics.{got}
-use Rattle.rules.specs.Calendar.{year, dayLength, midnight}
+use Rattle.rules.specs.Calendar.{year, midnight}
 use Rattle.rules.specs.Moments.{Moment, timeMs}
 use Rattle.rules.specs.Reading.{timeValue}
 use Rattle.rules.specs.declared.Setting.{Setting}

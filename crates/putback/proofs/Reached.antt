@@ -1,13 +1,12 @@
 -- A time value whose fields stand for an instant, and what it reaches with no modifier and with a shift for its only one. Assumes nothing.
-use Prim.Native.Nat.{ℕ, _+_, _*_, _/_, _%_, _≤_, _<_}
-use mathlib.Core.Bool.{Bool, true, false, not}
-use mathlib.Core.Path.{_≡_, refl, sym, ap, _∙_}
+use Prim.Native.Nat.{ℕ, _*_, _/_, _≤_, _<_}
+use mathlib.Core.Bool.{Bool, true, false}
+use mathlib.Core.Path.{_≡_, refl, ap, _∙_}
 use mathlib.Core.List.{List, [], _∷_}
-use native.Mathlib.Omega.{arith}
 use lib.IntN.{ℤ}
 use Rattle.rules.specs.Basics.{got}
 use Rattle.rules.specs.Calendar.{inRange, dayLength}
-use Rattle.rules.specs.Calls.{Value, bytes, timediff, text, modifiers}
+use Rattle.rules.specs.Calls.{bytes, timediff, text, modifiers}
 use Rattle.rules.specs.Functions.{ranged, momentOf, reading}
 use Rattle.rules.specs.Moments.{Moment, counted, countMs}
 use Rattle.rules.specs.Modifiers.{modifier, modified}

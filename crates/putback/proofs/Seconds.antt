@@ -1,14 +1,13 @@
--- Seconds whose milliseconds are known: cut they are the whole seconds, in three decimals the milliseconds, whether they were read or filled. Assumes
--- nothing.
-use Prim.Native.Nat.{ℕ, suc, _+_, _*_, _/_, _%_, _^_, _≤_, _<_}
-use mathlib.Core.Bool.{true, false}
+-- Seconds whose milliseconds are known, whether they were read or filled: cut they are the whole seconds, in three decimals the
+-- milliseconds. Assumes nothing.
+use Prim.Native.Nat.{ℕ, _+_, _*_, _^_, _≤_, _<_}
+use mathlib.Core.Bool.{false}
 use mathlib.Core.Path.{_≡_, refl, sym, ap, _∙_, subst}
 use mathlib.Core.List.{List}
 use native.Mathlib.Nat.{le-trans, le-of-eq, le-antisymm, le-of-suc-le-suc, mul-one, mul-assoc, add-mul, suc-mul, mul-le-mul-right, div-lt-iff-lt-mul}
 use native.Mathlib.Omega.{arith}
 use lib.Dec.{T, lit≤}
 use lib.Ieee.{Float, binary64, round, ofInt}
-use lib.Ieee.Exact.{HasValue}
 use lib.ListN.{length}
 use lib.Pow.{pow-pos}
 use Rattle.rules.specs.Decimal.{value}
@@ -18,7 +17,7 @@ use Rattle.real.proofs.Fractions.{fraction-near}
 use Rattle.real.proofs.Millis.{Nearly, cut-at, to-units, nearly-sum, nearly-quotient, nearly-decimals}
 use Rattle.real.proofs.Near.{add-at, div-at, number-val}
 use Rattle.real.proofs.Run.{Digits}
-use Rattle.real.proofs.Within.{Plain, plain, isPlain, plain-val, Within, within-round, whole-within}
+use Rattle.real.proofs.Within.{Plain, plain, isPlain, plain-val, within-round, whole-within}
 
 -- ---- not below s seconds
 is-plain : {x : Float} → Plain x → T (isPlain x)

@@ -1,15 +1,15 @@
 -- Two records that show the same instant are written alike: by date, time and datetime, and in every format of strftime. Assumes nothing.
-use Prim.Native.Nat.{ℕ, _+_, _*_, _/_, _%_, _≤_}
+use Prim.Native.Nat.{ℕ, _/_, _%_}
 use Prim.Native.Char.{Char}
 use mathlib.Core.Bool.{Bool, true, false}
 use mathlib.Core.Path.{_≡_, refl, sym, ap, _∙_}
-use mathlib.Core.List.{List, [], _∷_, _++_}
+use mathlib.Core.List.{List, [], _∷_}
 use lib.Ieee.{Float}
-use Rattle.rules.specs.Basics.{if_then_else_, is, Read, got, refuse, _>>=_}
+use Rattle.rules.specs.Basics.{if_then_else_, is, Read, got, _>>=_}
 use Rattle.rules.specs.Calendar.{timeOfDay, civil}
 use Rattle.rules.specs.Floats.{whole, decimals}
 use Rattle.rules.specs.Functions.{renewed, outcomeOf}
-use Rattle.rules.specs.Moments.{Moment, fill}
+use Rattle.rules.specs.Moments.{Moment}
 use Rattle.rules.specs.Writing.{threeDecimals, dateText, timeText, unixText, letters, writer, letter, formatted}
 use Rattle.rules.specs.declared.Function.{Function}
 

@@ -1,25 +1,25 @@
--- The bytes of the texts that are given and written: none is zero, none above 127. So none of them is refused, and a zero byte after one makes it
--- a buffer of one modifier. Assumes nothing.
-use Prim.Native.Nat.{ℕ, zero, suc, _+_, _*_, _/_, _%_, _^_, _≤_, _<_}
-use mathlib.Core.Bool.{Bool, true, false, not, _||_, true≢false}
+-- The bytes of the texts that are given and written: none is zero, none above 127. So none of them is refused, and a zero byte after one
+-- makes it a buffer of one modifier. Assumes nothing.
+use Prim.Native.Nat.{ℕ, zero, suc, _+_, _/_, _%_, _^_, _≤_, _<_}
+use mathlib.Core.Bool.{Bool, true, false, _||_, true≢false}
 use mathlib.Core.Logic.{_≢_}
-use mathlib.Core.Path.{_≡_, refl, sym, ap, _∙_}
+use mathlib.Core.Path.{_≡_, refl, sym, _∙_}
 use mathlib.Core.List.{List, [], _∷_, _++_, map}
 use native.Mathlib.Decide.{decLe}
 use native.Mathlib.Omega.{arith}
 use borrow.Author.Tests.{le-leb, le-ltb, leb-true, eqb-true, ne-eqb}
-use lib.Dec.{T, eqb, ltb, leb, ltb→lt, leb→le}
+use lib.Dec.{T, eqb, leb, leb→le}
 use lib.ListN.{length}
 use Rattle.rules.specs.Basics.{if_then_else_, ascii, every}
 use Rattle.rules.specs.Calendar.{dayLength}
-use Rattle.rules.specs.Calls.{modifiers, lastEnded, over, modifiersBad, high}
+use Rattle.rules.specs.Calls.{modifiers, lastEnded, modifiersBad, high}
 use Rattle.rules.specs.Reading.{space}
 use Rattle.rules.specs.Writing.{places, wide, shiftText}
 use Rattle.text.specs.Places.{gap}
 use Rattle.text.proofs.Bytes.{not-space}
 use Rattle.text.proofs.Tests.{and-left, and-right}
 use Rattle.reading.specs.Written.{Stamp, pointed, written, Full}
-use Rattle.putback.specs.Demand.{Instant, alone, shiftBy}
+use Rattle.putback.specs.Demand.{alone, shiftBy}
 
 pub data Bytes : List ℕ → Type 0 where
   none : Bytes []

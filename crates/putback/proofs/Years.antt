@@ -1,16 +1,14 @@
 -- The years 0 to 9999 lie within the range, also where a day runs over its month's end. Assumes nothing.
-use Prim.Native.Nat.{ℕ, suc, _+_, _-_, _*_, _/_, _%_, _≤_, _<_}
+use Prim.Native.Nat.{ℕ, suc, _+_, _-_, _*_, _/_, _≤_, _<_}
 use mathlib.Core.Bool.{Bool, true, false}
-use mathlib.Core.Path.{_≡_, refl, sym, ap, _∙_}
+use mathlib.Core.Path.{_≡_}
 use native.Mathlib.Omega.{arith}
-use Rattle.rules.specs.Calendar.{year, minusYear, years, dayLength, Exists, daysTo, midnight, timeOfDay, civil}
+use Rattle.rules.specs.Calendar.{year, years, dayLength, daysTo, midnight, timeOfDay, civil}
 use Rattle.rules.specs.Writing.{inMonth}
-use Rattle.rules.specs.declared.Ymd.{Ymd}
-use Rattle.calendar.specs.Ranges.{MonthDay, Countable, InRange}
+use Rattle.calendar.specs.Ranges.{MonthDay, InRange}
 use Rattle.calendar.proofs.Counting.{month-day}
 use Rattle.calendar.proofs.Instants.{start-is, time-high, date-again, time-again}
 use Rattle.calendar.proofs.Years.{closed, days-high}
-use Rattle.reading.specs.Written.{Full}
 use Rattle.timediff.specs.Spans as spans
 use Rattle.timediff.proofs.Shifts.{date}
 use Rattle.putback.specs.Demand.{Instant, at, month, between}
