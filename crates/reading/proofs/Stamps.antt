@@ -51,7 +51,7 @@ blanks-stop [] h = (tt, refl)
 blanks-stop (b ∷ l) h = let k = both (space b) (every space l) h .0 in (not-digit b k, not-point b k)
 
 -- ---- the fraction
-digits-of : (ds : List ℕ) → every (λ d. leb d 9) ds ≡ true → Digits ds
+pub digits-of : (ds : List ℕ) → every (λ d. leb d 9) ds ≡ true → Digits ds
 unfolding every
 digits-of [] h = tt
 digits-of (d ∷ ds) h = let (p, q) = both (leb d 9) (every (λ d. leb d 9) ds) h in (leb-true d 9 p, digits-of ds q)
@@ -119,7 +119,7 @@ module _ (t : Stamp) (k : ℕ) (F : Full t k) where
       ∙ is-date clock (fromDate t) (fieldsOf t) (no-minus (fromDate t) (date-begins t) ∙ date-and-time year (fromDate t) (t .year) (t .month) (t .day) _ ymd-read (timed timeOf) after-read ∙ ap (λ (p : Moment). got (settled p)) not-over)
 
   -- and their sum
-  time-ms : timeMs (t .hour) (t .minute) (number (t .second) ⊕ fractionOf (t .fraction)) ≡ t .hour * 3600000 + t .minute * 60000 + (1000 * t .second + k)
+  pub time-ms : timeMs (t .hour) (t .minute) (number (t .second) ⊕ fractionOf (t .fraction)) ≡ t .hour * 3600000 + t .minute * 60000 + (1000 * t .second + k)
   time-ms = ap (λ (n : ℕ). t .hour * 3600000 + t .minute * 60000 + n) (exact-ms (t .fraction) (t .second) (digits-of (t .fraction) (F .digits)) (F .few) (F .seconds) k (F .millis) (F .value))
 
   pub counts : countMs (fieldsOf t) ≡ counted (fieldsOf t) (instantOf t k)

@@ -1,0 +1,2 @@
+-- Demand 3, to be read by itself.
+pub mod Demand
