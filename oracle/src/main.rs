@@ -8,6 +8,7 @@ mod limits;
 mod lines;
 mod readings;
 mod shims;
+mod stored;
 mod values;
 
 // The Rust's file names these at its crate's root.
@@ -38,6 +39,7 @@ oracle generate N SEED [THEME]       lines of one theme or of all: value, modifi
                                      strftime, timediff, numbers, damage
 oracle days                          digests of the calendar
 oracle readings LIST                 calls with the documents' answers
+oracle stored READINGS LINES         the stored input of the program dates
 oracle values LIST                   time values: the list's, and generated ones
 oracle values < VALUES               what julianday and unixepoch give for each";
 
@@ -66,6 +68,7 @@ fn main() -> ExitCode {
         }
         ["days"] => days::run(output).map(|()| true),
         ["readings", list] => Ok(readings::run(list)),
+        ["stored", readings, list] => stored::run(readings, list, output).map(|()| true),
         ["values", list] => values::list(list, output).map(|()| true),
         ["values"] => values::answers(input, output).map(|()| true),
         _ => return usage(),

@@ -1,7 +1,7 @@
 //! `oracle generate`: lines at every edge of 01, the same for the same seed.
 //! Most give a real answer; the edges stand among them, not alone.
 
-mod edges;
+pub mod edges;
 mod format;
 mod modifiers;
 mod numbers;
@@ -10,6 +10,7 @@ mod stamps;
 mod values;
 
 use format::format;
+pub use format::LETTERS;
 use modifiers::{across, chain, from_before, limited_units, modifier, small_number};
 use numbers::{julian_day, spaced_number, tie, unix_seconds};
 use random::Random;
