@@ -1,6 +1,7 @@
 //! The Rust's date and time functions, built from its own file, to hold the
 //! port against. README.md has the commands.
 
+mod compare;
 mod days;
 mod departures;
 mod generator;
@@ -35,6 +36,7 @@ oracle raw < LINES                   the Rust as it is
 oracle ruled [-DEPARTURE].. < LINES  01; a minus switches a departure off: round,
                                      range, renew, decimal, early
 oracle departures < LINES            where the two differ, by name
+oracle compare N SEED PROGRAM        N lines through the program and the Rust
 oracle generate N SEED [THEME]       lines of one theme or of all: value, modifiers,
                                      strftime, timediff, numbers, damage
 oracle days                          digests of the calendar
@@ -57,6 +59,12 @@ fn main() -> ExitCode {
             None => return usage(),
         },
         ["departures"] => departures::run(input),
+        ["compare", count, seed, program] => {
+            let (Ok(count), Ok(seed)) = (count.parse(), seed.parse()) else {
+                return usage();
+            };
+            compare::run(count, seed, program)
+        }
         ["generate", count, seed, ref theme @ ..] if theme.len() < 2 => {
             let (Ok(count), Ok(seed)) = (count.parse(), seed.parse()) else {
                 return usage();
