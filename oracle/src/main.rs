@@ -9,6 +9,7 @@ mod limits;
 mod lines;
 mod readings;
 mod shims;
+mod sqlite;
 mod stored;
 mod values;
 
@@ -41,6 +42,7 @@ oracle generate N SEED [THEME]       lines of one theme or of all: value, modifi
                                      strftime, timediff, numbers, damage
 oracle days                          digests of the calendar
 oracle readings LIST                 calls with the documents' answers
+oracle sqlite N SEED                 N lines through the system's sqlite3
 oracle stored READINGS LINES         the stored input of the program dates
 oracle values LIST                   time values: the list's, and generated ones
 oracle values < VALUES               what julianday and unixepoch give for each";
@@ -76,6 +78,12 @@ fn main() -> ExitCode {
         }
         ["days"] => days::run(output).map(|()| true),
         ["readings", list] => Ok(readings::run(list)),
+        ["sqlite", count, seed] => {
+            let (Ok(count), Ok(seed)) = (count.parse(), seed.parse()) else {
+                return usage();
+            };
+            sqlite::run(count, seed)
+        }
         ["stored", readings, list] => stored::run(readings, list, output).map(|()| true),
         ["values", list] => values::list(list, output).map(|()| true),
         ["values"] => values::answers(input, output).map(|()| true),
