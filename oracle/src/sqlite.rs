@@ -100,7 +100,9 @@ fn not_asked(line: &[u8]) -> Option<&'static str> {
         return Some("modifiers +YYYY-MM-DD (from 3.43)");
     }
     if letters(call.format).any(|b| b"eFgGIklpPRTuUV".contains(&b)) {
-        return Some("letters %e %F %g %G %I %k %l %p %P %R %T %u %U %V (from 3.44)");
+        return Some(
+            "letters %e %F %I %k %l %p %P %R %T %u (from 3.44) and %g %G %U %V (from 3.46)",
+        );
     }
     None
 }
