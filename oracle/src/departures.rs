@@ -17,41 +17,74 @@ struct Count {
     examples: Vec<String>,
 }
 
-/// Prints the counts; false if there is an unnamed difference or no setting.
-pub fn run(input: impl BufRead) -> io::Result<bool> {
-    let mut counts: BTreeMap<String, Count> = BTreeMap::new();
-    let mut total = 0u64;
-    let good = lines::each(input, |line| {
-        total += 1;
+/// The lines looked at, and those whose raw answer is another, by name.
+#[derive(Default)]
+pub struct Differences {
+    pub total: u64,
+    counts: BTreeMap<String, Count>,
+}
+
+impl Differences {
+    /// Looks at one more line, whose ruled answer is given.
+    pub fn take(&mut self, line: &[u8], ruled: &[u8]) {
+        self.total += 1;
         let raw = answer(Reading::Raw, line);
-        let ruled = answer(Reading::Ruled(limits::ALL), line);
         if raw == ruled {
-            return Ok(());
+            return;
         }
-        let count = counts.entry(name(line, &raw, &ruled)).or_default();
+        let count = self.counts.entry(name(line, &raw, ruled)).or_default();
         count.lines += 1;
         if count.examples.len() < EXAMPLES {
-            count.examples.push(example(line, &raw, &ruled));
+            count.examples.push(example(line, &raw, ruled));
         }
+    }
+
+    pub fn add(&mut self, other: Differences) {
+        self.total += other.total;
+        for (name, theirs) in other.counts {
+            let count = self.counts.entry(name).or_default();
+            count.lines += theirs.lines;
+            count.examples.extend(theirs.examples);
+            count.examples.truncate(EXAMPLES);
+        }
+    }
+
+    pub fn all_named(&self) -> bool {
+        !self.counts.contains_key(UNNAMED)
+    }
+
+    pub fn print_table(&self) {
+        for (name, count) in &self.counts {
+            println!("{name}: {}", count.lines);
+            for example in &count.examples {
+                println!("    {example}");
+            }
+        }
+    }
+
+    pub fn summary(&self) -> String {
+        let differ: u64 = self.counts.values().map(|count| count.lines).sum();
+        let names: Vec<String> =
+            self.counts.iter().map(|(name, count)| format!("{name} {}", count.lines)).collect();
+        format!("{differ} differ: {}", names.join(", "))
+    }
+}
+
+/// Prints the counts; false if there is an unnamed difference or no setting.
+pub fn run(input: impl BufRead) -> io::Result<bool> {
+    let mut found = Differences::default();
+    let good = lines::each(input, |line| {
+        let ruled = answer(Reading::Ruled(limits::ALL), line);
+        found.take(line, &ruled);
         Ok(())
     })?;
     if !good {
         println!("departures: no good first line");
         return Ok(false);
     }
-    let mut names = Vec::new();
-    let mut differ = 0;
-    for (name, count) in &counts {
-        println!("{name}: {}", count.lines);
-        for example in &count.examples {
-            println!("    {example}");
-        }
-        names.push(format!("{name} {}", count.lines));
-        differ += count.lines;
-    }
-    let names = names.join(", ");
-    println!("departures: {total} lines, {differ} differ: {names}");
-    Ok(!counts.contains_key(UNNAMED))
+    found.print_table();
+    println!("departures: {} lines, {}", found.total, found.summary());
+    Ok(found.all_named())
 }
 
 fn answer(reading: Reading, line: &[u8]) -> Vec<u8> {
@@ -98,13 +131,15 @@ fn words(set: Departures) -> String {
     on.map(|(_, name)| *name).collect::<Vec<_>>().join("+")
 }
 
-/// `>` for a tab, and at most some eighty bytes of each part.
 fn example(line: &[u8], raw: &[u8], ruled: &[u8]) -> String {
-    let [line, raw, ruled] = [line, raw, ruled].map(|part| {
-        let cut = &part[..part.len().min(80)];
-        let dots = if cut.len() < part.len() { ".." } else { "" };
-        let tabs: Vec<u8> = cut.iter().map(|&b| if b == b'\t' { b'>' } else { b }).collect();
-        format!("{}{dots}", tabs.escape_ascii())
-    });
+    let [line, raw, ruled] = [line, raw, ruled].map(|part| shown(part, 80));
     format!("{line} => raw {raw}, ruled {ruled}")
+}
+
+/// `>` for a tab, and at most so many bytes.
+pub fn shown(text: &[u8], most: usize) -> String {
+    let cut = &text[..text.len().min(most)];
+    let dots = if cut.len() < text.len() { ".." } else { "" };
+    let tabs: Vec<u8> = cut.iter().map(|&b| if b == b'\t' { b'>' } else { b }).collect();
+    format!("{}{dots}", tabs.escape_ascii())
 }

@@ -1,6 +1,7 @@
 //! The Rust's date and time functions, built from its own file, to hold the
 //! port against. README.md has the commands.
 
+mod compare;
 mod days;
 mod departures;
 mod generator;
@@ -8,6 +9,8 @@ mod limits;
 mod lines;
 mod readings;
 mod shims;
+mod sqlite;
+mod stored;
 mod values;
 
 // The Rust's file names these at its crate's root.
@@ -34,10 +37,13 @@ oracle raw < LINES                   the Rust as it is
 oracle ruled [-DEPARTURE].. < LINES  01; a minus switches a departure off: round,
                                      range, renew, decimal, early
 oracle departures < LINES            where the two differ, by name
+oracle compare N SEED PROGRAM        N lines through the program and the Rust
 oracle generate N SEED [THEME]       lines of one theme or of all: value, modifiers,
                                      strftime, timediff, numbers, damage
 oracle days                          digests of the calendar
 oracle readings LIST                 calls with the documents' answers
+oracle sqlite N SEED                 N lines through the system's sqlite3
+oracle stored READINGS LINES         the stored input of the program dates
 oracle values LIST                   time values: the list's, and generated ones
 oracle values < VALUES               what julianday and unixepoch give for each";
 
@@ -55,6 +61,12 @@ fn main() -> ExitCode {
             None => return usage(),
         },
         ["departures"] => departures::run(input),
+        ["compare", count, seed, program] => {
+            let (Ok(count), Ok(seed)) = (count.parse(), seed.parse()) else {
+                return usage();
+            };
+            compare::run(count, seed, program)
+        }
         ["generate", count, seed, ref theme @ ..] if theme.len() < 2 => {
             let (Ok(count), Ok(seed)) = (count.parse(), seed.parse()) else {
                 return usage();
@@ -66,6 +78,13 @@ fn main() -> ExitCode {
         }
         ["days"] => days::run(output).map(|()| true),
         ["readings", list] => Ok(readings::run(list)),
+        ["sqlite", count, seed] => {
+            let (Ok(count), Ok(seed)) = (count.parse(), seed.parse()) else {
+                return usage();
+            };
+            sqlite::run(count, seed)
+        }
+        ["stored", readings, list] => stored::run(readings, list, output).map(|()| true),
         ["values", list] => values::list(list, output).map(|()| true),
         ["values"] => values::answers(input, output).map(|()| true),
         _ => return usage(),

@@ -7,7 +7,7 @@ use std::fs;
 
 /// Prints every call whose answer is another; false if there is one.
 pub fn run(path: &str) -> bool {
-    let list = fs::read_to_string(path).unwrap_or_else(|e| panic!("{path} does not read: {e}"));
+    let list = list(path);
     let mut setting = String::new();
     let (mut calls, mut wrong) = (0, 0);
     for (number, entry) in list.lines().enumerate() {
@@ -41,6 +41,23 @@ pub fn run(path: &str) -> bool {
     }
     println!("readings: {calls} calls, {wrong} answered otherwise");
     wrong == 0
+}
+
+fn list(path: &str) -> String {
+    fs::read_to_string(path).unwrap_or_else(|e| panic!("{path} does not read: {e}"))
+}
+
+/// The lines of all calls, as they stand there, and those of whole runs after
+/// the first.
+pub fn lines(path: &str) -> Vec<Vec<u8>> {
+    let list = list(path);
+    let mut lines = Vec::new();
+    for (how, call, _) in list.lines().filter(|l| !l.starts_with('#')).filter_map(parts) {
+        let call = bytes(call);
+        let first = usize::from(how == "run");
+        lines.extend(call.split(|&b| b == b'\n').skip(first).map(<[u8]>::to_vec));
+    }
+    lines
 }
 
 /// `place reading call => answer`: the last three.

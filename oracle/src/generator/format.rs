@@ -2,7 +2,8 @@
 
 use super::random::Random;
 
-const LETTERS: &[u8] = b"deFfgGHIjJklmMpPRsSTuUVwWY%";
+/// What may stand after a `%`.
+pub const LETTERS: &[u8] = b"deFfgGHIjJklmMpPRsSTuUVwWY%";
 
 pub fn format(r: &mut Random, out: &mut Vec<u8>) {
     let start = out.len();

@@ -1,7 +1,7 @@
 //! `oracle generate`: lines at every edge of 01, the same for the same seed.
 //! Most give a real answer; the edges stand among them, not alone.
 
-mod edges;
+pub mod edges;
 mod format;
 mod modifiers;
 mod numbers;
@@ -10,6 +10,7 @@ mod stamps;
 mod values;
 
 use format::format;
+pub use format::LETTERS;
 use modifiers::{across, chain, from_before, limited_units, modifier, small_number};
 use numbers::{julian_day, spaced_number, tie, unix_seconds};
 use random::Random;
@@ -57,17 +58,39 @@ pub fn run(count: u64, seed: u64, theme: Option<&str>, mut output: impl Write) -
         return Ok(false);
     }
     let mut random = Random::new(seed);
-    let mut line = Vec::new();
     writeln!(output, "{}", random.pick(&SETTINGS))?;
+    lines(count, &mut random, &shares, &mut output)?;
+    output.flush()?;
+    Ok(true)
+}
+
+/// The same of all themes, for one of many runs: the first runs have the known
+/// settings, the others any.
+pub fn numbered(count: u64, seed: u64, run: u64) -> Vec<u8> {
+    let mut random = Random::new(Random::new(seed).next().wrapping_add(run));
+    let mut output = Vec::new();
+    match SETTINGS.get(run as usize) {
+        Some(setting) => writeln!(output, "{setting}").unwrap(),
+        None => {
+            let clock = random.between(0, 253402300799999);
+            let offset = random.between(-86399, 86399);
+            writeln!(output, "{clock}\t{offset}").unwrap();
+        }
+    }
+    lines(count, &mut random, &THEMES.map(|(_, share, _)| share), &mut output).unwrap();
+    output
+}
+
+fn lines(count: u64, r: &mut Random, shares: &[usize], output: &mut impl Write) -> io::Result<()> {
+    let mut line = Vec::new();
     for _ in 0..count {
         line.clear();
-        let (_, _, theme) = THEMES[random.weighed(&shares)];
-        theme(&mut random, &mut line);
+        let (_, _, theme) = THEMES[r.weighed(shares)];
+        theme(r, &mut line);
         line.push(b'\n');
         output.write_all(&line)?;
     }
-    output.flush()?;
-    Ok(true)
+    Ok(())
 }
 
 /// One time value, read by any function; now and then a modifier.
