@@ -7,6 +7,7 @@ mod generator;
 mod limits;
 mod lines;
 mod readings;
+mod shifts;
 mod shims;
 mod values;
 
@@ -39,7 +40,9 @@ oracle generate N SEED [THEME]       lines of one theme or of all: value, modifi
 oracle days                          digests of the calendar
 oracle readings LIST                 calls with the documents' answers
 oracle values LIST                   time values: the list's, and generated ones
-oracle values < VALUES               what julianday and unixepoch give for each";
+oracle values < VALUES               what julianday and unixepoch give for each
+oracle shifts LIST                   calls of julianday with modifiers: the list's, and
+                                     generated ones";
 
 const BUFFER: usize = 1 << 16;
 
@@ -67,6 +70,7 @@ fn main() -> ExitCode {
         ["days"] => days::run(output).map(|()| true),
         ["readings", list] => Ok(readings::run(list)),
         ["values", list] => values::list(list, output).map(|()| true),
+        ["shifts", list] => shifts::list(list, output).map(|()| true),
         ["values"] => values::answers(input, output).map(|()| true),
         _ => return usage(),
     };

@@ -43,6 +43,13 @@ pub fn run(path: &str) -> bool {
     wrong == 0
 }
 
+/// The calls of a list that are read by 01.
+pub fn ruled(path: &str) -> Vec<Vec<u8>> {
+    let list = fs::read_to_string(path).unwrap_or_else(|e| panic!("{path} does not read: {e}"));
+    let calls = list.lines().filter(|l| !l.starts_with('#')).filter_map(parts);
+    calls.filter(|&(how, _, _)| how == "ruled").map(|(_, call, _)| bytes(call)).collect()
+}
+
 /// `place reading call => answer`: the last three.
 fn parts(entry: &str) -> Option<(&str, &str, &str)> {
     let (_place, rest) = entry.split_once(' ')?;
