@@ -8,6 +8,7 @@ mod generator;
 mod limits;
 mod lines;
 mod readings;
+mod shifts;
 mod shims;
 mod sqlite;
 mod stored;
@@ -45,7 +46,9 @@ oracle readings LIST                 calls with the documents' answers
 oracle sqlite N SEED                 N lines through the system's sqlite3
 oracle stored READINGS LINES         the stored input of the program dates
 oracle values LIST                   time values: the list's, and generated ones
-oracle values < VALUES               what julianday and unixepoch give for each";
+oracle values < VALUES               what julianday and unixepoch give for each
+oracle shifts LIST                   calls of julianday with modifiers: the list's, and
+                                     generated ones";
 
 const BUFFER: usize = 1 << 16;
 
@@ -86,6 +89,7 @@ fn main() -> ExitCode {
         }
         ["stored", readings, list] => stored::run(readings, list, output).map(|()| true),
         ["values", list] => values::list(list, output).map(|()| true),
+        ["shifts", list] => shifts::list(list, output).map(|()| true),
         ["values"] => values::answers(input, output).map(|()| true),
         _ => return usage(),
     };

@@ -60,6 +60,13 @@ pub fn lines(path: &str) -> Vec<Vec<u8>> {
     lines
 }
 
+/// The calls of a list that are read by 01.
+pub fn ruled(path: &str) -> Vec<Vec<u8>> {
+    let list = list(path);
+    let calls = list.lines().filter(|l| !l.starts_with('#')).filter_map(parts);
+    calls.filter(|&(how, _, _)| how == "ruled").map(|(_, call, _)| bytes(call)).collect()
+}
+
 /// `place reading call => answer`: the last three.
 fn parts(entry: &str) -> Option<(&str, &str, &str)> {
     let (_place, rest) = entry.split_once(' ')?;

@@ -8,7 +8,7 @@ use std::collections::HashSet;
 use std::fs;
 use std::io::{self, BufRead, Write};
 
-const SETTING: &[u8] = b"1700000000123\t3600";
+pub const SETTING: &[u8] = b"1700000000123\t3600";
 
 /// From how many generated lines of each theme the time values are taken.
 const THEMES: [(&str, u64); 3] = [("value", 3000), ("numbers", 2000), ("damage", 2000)];
