@@ -5,3 +5,7 @@ pub mod Opened
 pub mod Faults
 -- the moment of a call
 pub mod Moments
+-- what is given back of an outcome: a text in the lent buffer, or a refusal
+pub mod Given
+-- from the moment to the outcome
+pub mod Answers
