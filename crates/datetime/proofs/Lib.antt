@@ -11,3 +11,5 @@ pub mod Instants
 pub mod Given
 -- from the moment to the outcome
 pub mod Answers
+-- from timediff's two instants to its outcome
+pub mod Differences
