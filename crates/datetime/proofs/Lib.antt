@@ -11,7 +11,5 @@ pub mod Instants
 pub mod Given
 -- from the moment to the outcome
 pub mod Answers
--- timediff's two instants
-pub mod Instants
 -- from timediff's two instants to its outcome
 pub mod Differences
