@@ -30,7 +30,7 @@ or-cases : (a b : Bool) {X : Type 0} → (T a → X) → (T b → X) → T (a ||
 or-cases true b f g t = f tt
 or-cases false b f g t = g t
 
-and-both : (a b : Bool) → T (a && b) → T a × T b
+pub and-both : (a b : Bool) → T (a && b) → T a × T b
 and-both true b t = (tt, t)
 and-both false b t = absurd t
 

@@ -5,4 +5,5 @@ pub mod Cases
 pub mod Lengths
 pub mod Letters
 pub mod Formats
+pub mod Bounds
 pub mod Loops

@@ -11,56 +11,59 @@ use Rattle.rules.specs.Writing.{letter, formatted}
 use Rattle.rules.specs.declared.Refusal.{Refusal}
 use Rattle.digits.specs.Writers.{Room, Laid}
 use Rattle.digits.proofs.Buffer.{room-as, room-first, room-then, laid-then}
-use Rattle.writing.specs.Formats.{textOf, IsText, putIs, checkIs}
+use Rattle.writing.specs.Formats.{textOf, IsText, putIs, checkIs, most, mostOf}
 use Rattle.writing.specs.declared.Put.the-variants as put
 use Rattle.writing.specs.declared.Checked.the-variants as checked
 use Rattle.writing.proofs.Formats.{Passed, passed-start, passed-plain, passed-letter, passed-refused, passed-last, passed-end, passed-two, letter-text, after-letter, after-plain}
+use Rattle.writing.proofs.Bounds.{most-few, bound-plain, bound-letter, bound-end}
 
 -- ---- check
-record Most (r : Read (List ℕ)) (n : ℕ) : Type 0 where
+record Most (r : Read (List ℕ)) (bound n : ℕ) : Type 0 where
   text : IsText r
   short : length (textOf r) ≤ n
-  few : n ≤ 17
+  exact : n ≡ bound
 
-a-most : (r : Read (List ℕ)) (n : ℕ) → checkIs r 17 (checked.Most n) → Most r n
-a-most (got s) n h = record { text = refl; short = h .0; few = h .1 }
-a-most other n h = absurd h
-a-most (refuse x) n h = absurd h
+a-most : (r : Read (List ℕ)) (bound n : ℕ) → checkIs r bound (checked.Most n) → Most r bound n
+a-most (got s) bound n h = record { text = refl; short = h .0; exact = h .1 }
+a-most other bound n h = absurd h
+a-most (refuse x) bound n h = absurd h
 
-a-refusal : (r : Read (List ℕ)) (x : Refusal) → checkIs r 17 (checked.Refused x) → r ≡ refuse x
-a-refusal (got s) x h = absurd h
-a-refusal other x h = absurd h
-a-refusal (refuse y) x h = ap refuse (sym h)
+a-refusal : (r : Read (List ℕ)) (bound : ℕ) (x : Refusal) → checkIs r bound (checked.Refused x) → r ≡ refuse x
+a-refusal (got s) bound x h = absurd h
+a-refusal other bound x h = absurd h
+a-refusal (refuse y) bound x h = ap refuse (sym h)
 
 module _ (p : Moment) (f : List ℕ) where
-  pub record Bounded (i most : ℕ) : Type 0 where
+  pub record Bounded (i sum : ℕ) : Type 0 where
     pub done : List ℕ
     pub passed : Passed p f i done
     pub inside : i ≤ length f
-    pub short : length done ≤ most
-    pub few : most ≤ 17 * i
+    pub short : length done ≤ sum
+    pub few : sum ≤ 17 * i
+    pub exact : mostOf f ≡ sum + mostOf (drop i f)
 
   pub bounded-start : Bounded 0 0
-  bounded-start = record { done = []; passed = passed-start p f; inside = omega arith; short = omega arith; few = omega arith }
+  bounded-start = record { done = []; passed = passed-start p f; inside = omega arith; short = omega arith; few = omega arith; exact = omega arith }
 
-  module _ (i most : ℕ) (so : Bounded i most) where
-    pub bounded-plain : i < length f → (getD f i 0 ≡ 37 → ⊥) → Bounded (i + 1) (most + 1)
-    bounded-plain h n = record { done = so .done ++ (getD f i 0 ∷ []); passed = passed-plain p f i (so .done) (so .passed) h n; inside = omega arith; short = omega (arith, length-append (so .done) (getD f i 0 ∷ []), so .short); few = omega (arith, so .few) }
+  module _ (i sum : ℕ) (so : Bounded i sum) where
+    pub bounded-plain : i < length f → (getD f i 0 ≡ 37 → ⊥) → Bounded (i + 1) (sum + 1)
+    bounded-plain h n = record { done = so .done ++ (getD f i 0 ∷ []); passed = passed-plain p f i (so .done) (so .passed) h n; inside = omega arith; short = omega (arith, length-append (so .done) (getD f i 0 ∷ []), so .short); few = omega (arith, so .few); exact = omega (arith, so .exact, bound-plain f i h n) }
 
-    pub bounded-letter : i + 1 < length f → getD f i 0 ≡ 37 → (n : ℕ) → checkIs (letter (getD f (i + 1) 0) p) 17 (checked.Most n) → Bounded (i + 2) (most + n)
+    pub bounded-letter : i + 1 < length f → getD f i 0 ≡ 37 → (n : ℕ) → checkIs (letter (getD f (i + 1) 0) p) (most (getD f (i + 1) 0)) (checked.Most n) → Bounded (i + 2) (sum + n)
     bounded-letter h e n c =
-        let r = letter (getD f (i + 1) 0) p in
-        let m = a-most r n c in
-        record { done = so .done ++ textOf r; passed = passed-letter p f i (so .done) (so .passed) h e (textOf r) (m .text); inside = omega arith; short = omega (arith, length-append (so .done) (textOf r), so .short, m .short); few = omega (arith, so .few, m .few) }
+        let b = getD f (i + 1) 0 in
+        let r = letter b p in
+        let m = a-most r (most b) n c in
+        record { done = so .done ++ textOf r; passed = passed-letter p f i (so .done) (so .passed) h e (textOf r) (m .text); inside = omega arith; short = omega (arith, length-append (so .done) (textOf r), so .short, m .short); few = omega (arith, so .few, m .exact, most-few b); exact = omega (arith, so .exact, m .exact, bound-letter f i h e) }
 
-    pub bounded-refused : i + 1 < length f → getD f i 0 ≡ 37 → (x : Refusal) (limit : ℕ) → checkIs (letter (getD f (i + 1) 0) p) 17 (checked.Refused x) → checkIs (formatted p f) limit (checked.Refused x)
-    bounded-refused h e x limit c = rw (passed-refused p f i (so .done) (so .passed) h e x (a-refusal (letter (getD f (i + 1) 0) p) x c)) refl
+    pub bounded-refused : i + 1 < length f → getD f i 0 ≡ 37 → (x : Refusal) (bound : ℕ) → checkIs (letter (getD f (i + 1) 0) p) (most (getD f (i + 1) 0)) (checked.Refused x) → checkIs (formatted p f) bound (checked.Refused x)
+    bounded-refused h e x bound c = let b = getD f (i + 1) 0 in rw (passed-refused p f i (so .done) (so .passed) h e x (a-refusal (letter b p) (most b) x c)) refl
 
-    pub bounded-last : length f ≡ i + 1 → getD f i 0 ≡ 37 → (limit : ℕ) → checkIs (formatted p f) limit (checked.Refused Refusal.Null)
-    bounded-last h e limit = rw (passed-last p f i (so .done) (so .passed) h e) refl
+    pub bounded-last : length f ≡ i + 1 → getD f i 0 ≡ 37 → (bound : ℕ) → checkIs (formatted p f) bound (checked.Refused Refusal.Null)
+    bounded-last h e bound = rw (passed-last p f i (so .done) (so .passed) h e) refl
 
-    pub bounded-end : length f ≤ i → checkIs (formatted p f) (17 * length f) (checked.Most most)
-    bounded-end h = rw (passed-end p f i (so .done) (so .passed) h) (so .short, omega (arith, so .few, so .inside))
+    pub bounded-end : length f ≤ i → checkIs (formatted p f) (mostOf f) (checked.Most sum)
+    bounded-end h = rw (passed-end p f i (so .done) (so .passed) h) (so .short, omega (arith, so .exact, bound-end f i h))
 
   -- ---- format_length
   pub record Counted (i n : ℕ) : Type 0 where

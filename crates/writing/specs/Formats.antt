@@ -1,5 +1,5 @@
 -- What the functions over letters and formats answer.
-use Prim.Native.Nat.{ℕ, _≤_}
+use Prim.Native.Nat.{ℕ, _+_, _≤_}
 use Prim.Native.Char.{Char}
 use mathlib.Core.Path.{_≡_}
 use mathlib.Core.List.{List, [], _∷_}
@@ -29,13 +29,13 @@ putIs other old at new r = ⊥
 putIs (refuse y) old at new (put.At n) = ⊥
 putIs (refuse y) old at new (put.Refused x) = (x ≡ y) × (new ≡ old)
 
--- a text of at most n bytes, n being at most `limit`; or the refusal
+-- a text of at most n bytes, n being `bound`; or the refusal
 abbrev pub checkIs : Read (List ℕ) → ℕ → Checked → Type 0
-checkIs (got s) limit (checked.Most n) = (length s ≤ n) × (n ≤ limit)
-checkIs (got s) limit (checked.Refused x) = ⊥
-checkIs other limit r = ⊥
-checkIs (refuse y) limit (checked.Most n) = ⊥
-checkIs (refuse y) limit (checked.Refused x) = x ≡ y
+checkIs (got s) bound (checked.Most n) = (length s ≤ n) × (n ≡ bound)
+checkIs (got s) bound (checked.Refused x) = ⊥
+checkIs other bound r = ⊥
+checkIs (refuse y) bound (checked.Most n) = ⊥
+checkIs (refuse y) bound (checked.Refused x) = x ≡ y
 
 -- The bytes that each letter writes at the most. Those of F g G J s Y may be fewer; the others write as many.
 unfoldable pub mosts : List (Char × ℕ)
@@ -49,3 +49,12 @@ mostIn (row ∷ rows) b = if is (row .0) b then row .1 else mostIn rows b
 
 unfoldable pub most : ℕ → ℕ
 most b = mostIn mosts b
+
+-- and a format: one for each byte that stands for itself. (A last `%` is refused.)
+unfoldable pub mostOf : List ℕ → ℕ
+mostOf [] = 0
+mostOf (b ∷ []) = 1
+mostOf (b ∷ c ∷ s) =
+    let lettered = most c + mostOf s in
+    let plain = 1 + mostOf (c ∷ s) in
+    if is "%" b then lettered else plain

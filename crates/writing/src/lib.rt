@@ -5,13 +5,13 @@
 // standing, as they were read or filled. So an hour 24 and a day past its month's end may be met with.
 //
 // A format is gone through three times at the most, so that a refusal changes no byte and no answer is written twice:
-// - `check` finds the first refusal, or an upper bound of the text's length;
+// - `check` finds the first refusal, or a bound of the text's length, the sum of its letters' bounds;
 // - `format_length` finds the exact length, where the bound has no room;
 // - `put_format` writes the text.
 ghost use mathlib.Core.Bool.{true};
 ghost use mathlib.Core.Path.{_≡_};
 ghost use mathlib.Core.List.{[], _∷_};
-ghost use Prim.Native.Nat.{_*_, _≤_, _<_, _^_};
+ghost use Prim.Native.Nat.{_≤_, _<_, _^_};
 ghost use lib.ListN.{length};
 ghost use Rattle.rules.specs.Calendar as rule;
 ghost use Rattle.rules.specs.Writing as text;
@@ -21,7 +21,7 @@ ghost use Rattle.moment.specs.Held.{held};
 ghost use Rattle.digits.specs.Writers.{Room, Laid};
 ghost use Rattle.writing.specs.Printable.{Printable};
 ghost use Rattle.writing.specs.Texts.{dateOf, clockOf, wholeTime, decimalTime, half, weekOf, unixOf};
-ghost use Rattle.writing.specs.Formats.{textOf, IsText, most, putIs, checkIs};
+ghost use Rattle.writing.specs.Formats.{textOf, IsText, most, mostOf, putIs, checkIs};
 use calendar::day_of_year;
 use calendar::iso_week;
 use calendar::since_monday;
@@ -317,10 +317,10 @@ pub enum Checked {
     Refused(Refusal),
 }
 
-// What `put_letter` will answer, at a bound of the letter's length.
+// What `put_letter` will answer: its refusal, or the letter's bound.
 fn check_letter(p: Moment, c: u8) -> Checked
     requires { ⌜ Printable (held p) ⌝ }
-    ensures { λ r. ⌜ checkIs (text.letter c (held p)) 17 r ⌝ }
+    ensures { λ r. ⌜ checkIs (text.letter c (held p)) (most c) r ⌝ }
 {
     if c == b'J' {
         if p.ms < EARLY {
@@ -335,11 +335,11 @@ fn check_letter(p: Moment, c: u8) -> Checked
     Checked::Most(n)
 }
 
-// "format left to right (with 6)": the first refusal, or an upper bound of the length. A last `%` gives 1. No format is so long that 17
-// times its length would not fit.
+// "format left to right (with 6)": the first refusal, or the sum of the letters' bounds, one for any other byte. A last `%` gives 1. No
+// format is so long that 17 times its length would not fit.
 pub fn check(p: Moment, format: &[u8]) -> Checked
     requires { ⌜ Printable (held p) ⌝ ∗ ⌜ length (now format) < 2 ^ 58 ⌝ }
-    ensures { λ r. ⌜ checkIs (text.formatted (held p) (now (format .entry))) (17 * length (now (format .entry))) r ⌝ }
+    ensures { λ r. ⌜ checkIs (text.formatted (held p) (now (format .entry))) (mostOf (now (format .entry))) r ⌝ }
 {
     let mut i = 0;
     let mut most = 0;

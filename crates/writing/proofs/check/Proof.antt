@@ -9,7 +9,7 @@ use denote.Ref.{now}
 use Rattle.rules.specs.Basics.{Read}
 use Rattle.moment.specs.Held.{held}
 use Rattle.rules.specs.Writing.{letter}
-use Rattle.writing.specs.Formats.{checkIs}
+use Rattle.writing.specs.Formats.{checkIs, most}
 use Rattle.writing.specs.declared.Checked.{Checked}
 use Rattle.writing.specs.declared.Checked.the-variants.{Most, Refused}
 use Rattle.writing.proofs.Loops.{Bounded, bounded-start, bounded-plain, bounded-letter, bounded-refused, bounded-last, bounded-end}
@@ -25,15 +25,18 @@ abbrev μ-loop : tie.MeasureT-loop
 two : (c : tie.Else2 Inv-loop μ-loop) → c .before .before .before .before .loop .i + 1 < length (now (c .before .before .before .before .before .before .args .format))
 two c = omega (arith, c .if2 .left, c .before .before .before .loop-test .taken)
 
--- what the letter at hand writes
+-- the letter at hand, and what it writes
+abbrev byte : tie.After-check-letter Inv-loop μ-loop → ℕ
+byte c = getD (now (c .before .before .before .before .before .before .before .before .args .format)) (c .before .before .before .before .before .before .loop .i + 1) 0
+
 abbrev here : tie.After-check-letter Inv-loop μ-loop → Read (List ℕ)
-here c = let s = c .before .before .before .before .before .before .before .before in letter (getD (now (s .args .format)) (c .before .before .before .before .before .before .loop .i + 1) 0) (held (s .args .p))
+here c = letter (byte c) (held (c .before .before .before .before .before .before .before .before .args .p))
 
-most : (c : tie.After-known-told Inv-loop μ-loop) → checkIs (here (c .before .before .before)) 17 (Most (c .before .n .given .0 .0))
-most c = subst (λ (r : Checked). checkIs (here (c .before .before .before)) 17 r) (c .before .n .given .1) (c .before .before .before .check-letter .ensures)
+bound : (c : tie.After-known-told Inv-loop μ-loop) → checkIs (here (c .before .before .before)) (most (byte (c .before .before .before))) (Most (c .before .n .given .0 .0))
+bound c = subst (λ (r : Checked). checkIs (here (c .before .before .before)) (most (byte (c .before .before .before))) r) (c .before .n .given .1) (c .before .before .before .check-letter .ensures)
 
-refused : (c : tie.After-known-told2 Inv-loop μ-loop) → checkIs (here (c .before .before .before)) 17 (Refused (c .before .r .given .0 .0))
-refused c = subst (λ (r : Checked). checkIs (here (c .before .before .before)) 17 r) (c .before .r .given .1) (c .before .before .before .check-letter .ensures)
+refused : (c : tie.After-known-told2 Inv-loop μ-loop) → checkIs (here (c .before .before .before)) (most (byte (c .before .before .before))) (Refused (c .before .r .given .0 .0))
+refused c = subst (λ (r : Checked). checkIs (here (c .before .before .before)) (most (byte (c .before .before .before))) r) (c .before .r .given .1) (c .before .before .before .check-letter .ensures)
 
 loop-holds : tie.Need-loop-holds Inv-loop μ-loop
 loop-holds c = bounded-start _ _
@@ -72,7 +75,7 @@ enum-known-n : tie.Need-enum-known-n Inv-loop μ-loop
 enum-known-n c = search needs
 
 add-most-2 : tie.Need-add-most-2 Inv-loop μ-loop
-add-most-2 c = omega (arith, c .before .before .before .before .before .before .before .before .before .before .before .pre .1, c .before .before .before .before .before .before .before .before .before .loop .inv .few, bounded-letter _ _ _ _ (c .before .before .before .before .before .before .before .before .before .loop .inv) (two (c .before .before .before .before .before)) (c .before .before .before .before .before .before .if1 .left) _ (most c) .few, c .before .before .before .before .before .before .before .before .loop-test .taken)
+add-most-2 c = omega (arith, c .before .before .before .before .before .before .before .before .before .before .before .pre .1, c .before .before .before .before .before .before .before .before .before .loop .inv .few, bounded-letter _ _ _ _ (c .before .before .before .before .before .before .before .before .before .loop .inv) (two (c .before .before .before .before .before)) (c .before .before .before .before .before .before .if1 .left) _ (bound c) .few, c .before .before .before .before .before .before .before .before .loop-test .taken)
 
 enum-known-r : tie.Need-enum-known-r Inv-loop μ-loop
 enum-known-r c = search needs
@@ -87,7 +90,7 @@ loop-less-2 : tie.Need-loop-less-2 Inv-loop μ-loop
 loop-less-2 c = omega (arith, two (c .before .before .before .before .before))
 
 loop-again-2 : tie.Need-loop-again-2 Inv-loop μ-loop
-loop-again-2 c = bounded-letter _ _ _ _ (c .before .before .before .before .before .before .before .before .before .loop .inv) (two (c .before .before .before .before .before)) (c .before .before .before .before .before .before .if1 .left) _ (most c)
+loop-again-2 c = bounded-letter _ _ _ _ (c .before .before .before .before .before .before .before .before .before .loop .inv) (two (c .before .before .before .before .before)) (c .before .before .before .before .before .before .if1 .left) _ (bound c)
 
 returns-3 : tie.Need-returns-3 Inv-loop μ-loop
 returns-3 c = bounded-end _ _ _ _ (c .before .loop .inv) (c .loop-test .left)

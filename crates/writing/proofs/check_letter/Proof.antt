@@ -12,7 +12,7 @@ use Rattle.rules.specs.Writing.{letter, letters, writer, julianText}
 use Rattle.rules.specs.declared.Refusal.{Refusal}
 use Rattle.moment.specs.Held.{held}
 use Rattle.digits.proofs.Lengths.{length-julian}
-use Rattle.writing.specs.Formats.{textOf, IsText, checkIs}
+use Rattle.writing.specs.Formats.{textOf, IsText, checkIs, mosts, mostIn, most}
 use Rattle.writing.specs.declared.Checked.the-variants.{Most}
 use Rattle.writing.proofs.Letters.{no-letter, a-letter, most-length}
 use Rattle.writing.proofs.Texts.{julian-early, julian-late}
@@ -27,14 +27,15 @@ late : (p : Moment) → instant 86400000000000 ≤ p .ms → letter 74 p ≡ got
 unfolding letter letters writer
 late p h = julian-late (p .ms) h
 
-is-most : (r : Read (List ℕ)) (n : ℕ) → IsText r → length (textOf r) ≤ n → n ≤ 17 → checkIs r 17 (Most n)
-is-most r n t h l = rw t (h, l)
+is-most : (r : Read (List ℕ)) (bound n : ℕ) → IsText r → length (textOf r) ≤ n → n ≡ bound → checkIs r bound (Most n)
+is-most r bound n t h e = rw t (h, e)
 
 returns : tie.Need-returns
 returns c = rw (c .before .before .if1 .taken, early (held (c .before .before .before .args .p)) (c .if2 .taken)) refl
 
 returns-2 : tie.Need-returns-2
-returns-2 c = let p = held (c .before .before .before .args .p) in rw (c .before .before .if1 .taken, late p (c .if2 .left)) (length-julian (p .ms) (c .if2 .left) (c .before .before .before .pre .range .to), omega arith)
+unfolding most mostIn mosts
+returns-2 c = let p = held (c .before .before .before .args .p) in rw (c .before .before .if1 .taken, late p (c .if2 .left)) (length-julian (p .ms) (c .if2 .left) (c .before .before .before .pre .range .to), refl)
 
 letter-most-requires : tie.Need-letter-most-requires
 letter-most-requires c κs = search needs
@@ -43,7 +44,7 @@ returns-3 : tie.Need-returns-3
 returns-3 c = let s = c .before .before .before in rw (no-letter (held (s .args .p)) (s .pre) (s .args .c) (sym (c .before .letter-most .ensures .0) ∙ c .if3 .taken)) refl
 
 returns-4 : tie.Need-returns-4
-returns-4 c = let s = c .before .before .before in let p = held (s .args .p) in let m = c .before .letter-most .ensures in is-most (letter (s .args .c) p) _ (a-letter p (s .pre) (s .args .c) (λ z. c .if3 .left (m .0 ∙ z)) (c .before .before .if1 .left)) (rw (m .0) (most-length p (s .pre) (s .args .c))) (m .1)
+returns-4 c = let s = c .before .before .before in let p = held (s .args .p) in let m = c .before .letter-most .ensures in is-most (letter (s .args .c) p) (most (s .args .c)) _ (a-letter p (s .pre) (s .args .c) (λ z. c .if3 .left (m .0 ∙ z)) (c .before .before .if1 .left)) (rw (m .0) (most-length p (s .pre) (s .args .c))) (m .0)
 
 pub check-letter-spec : {M : Type 1} → statement M
 check-letter-spec = tie.close (tie.spec returns returns-2 letter-most-requires returns-3 returns-4)
