@@ -1,6 +1,7 @@
 //! The Rust's date and time functions, built from its own file, to hold the
 //! port against. README.md has the commands.
 
+mod calls;
 mod days;
 mod departures;
 mod generator;
@@ -39,7 +40,9 @@ oracle generate N SEED [THEME]       lines of one theme or of all: value, modifi
 oracle days                          digests of the calendar
 oracle readings LIST                 calls with the documents' answers
 oracle values LIST                   time values: the list's, and generated ones
-oracle values < VALUES               what julianday and unixepoch give for each";
+oracle values < VALUES               what julianday and unixepoch give for each
+oracle limits N SEED                 calls at every limit, and N generated ones
+oracle limits < CALLS                what each gives back";
 
 const BUFFER: usize = 1 << 16;
 
@@ -68,6 +71,13 @@ fn main() -> ExitCode {
         ["readings", list] => Ok(readings::run(list)),
         ["values", list] => values::list(list, output).map(|()| true),
         ["values"] => values::answers(input, output).map(|()| true),
+        ["limits", count, seed] => {
+            let (Ok(count), Ok(seed)) = (count.parse(), seed.parse()) else {
+                return usage();
+            };
+            calls::list(count, seed, output).map(|()| true)
+        }
+        ["limits"] => calls::answers(input, output).map(|()| true),
         _ => return usage(),
     };
     match good {
