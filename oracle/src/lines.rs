@@ -16,14 +16,14 @@ pub enum Reading {
 }
 
 const LINE_LIMIT: usize = 8192;
-const VALUE_LIMIT: usize = 255;
-const FORMAT_LIMIT: usize = 1024;
-const MODIFIERS_LIMIT: usize = 16;
-const CLOCK_LIMIT: u64 = 253402300799999;
-const OFFSET_LIMIT: u64 = 86399;
+pub const VALUE_LIMIT: usize = 255;
+pub const FORMAT_LIMIT: usize = 1024;
+pub const MODIFIERS_LIMIT: usize = 16;
+pub const CLOCK_LIMIT: u64 = 253402300799999;
+pub const OFFSET_LIMIT: u64 = 86399;
 
 #[derive(Clone, Copy, PartialEq)]
-enum Function {
+pub enum Function {
     Date,
     Time,
     Datetime,
@@ -33,7 +33,7 @@ enum Function {
     Timediff,
 }
 
-fn function(name: &[u8]) -> Option<Function> {
+pub fn function(name: &[u8]) -> Option<Function> {
     Some(match name {
         b"date" => Function::Date,
         b"time" => Function::Time,
@@ -152,19 +152,28 @@ pub fn answer(reading: Reading, line: &[u8], out: &mut Vec<u8>) {
         }
     }
     let values: Vec<ValueRef> = fields.map(value).collect();
-    let values = values.iter().copied();
     match reading {
         Reading::Raw => write(call!(raw, function, values), out),
-        Reading::Ruled(departures) => {
-            limits::switch(departures);
-            let value = call!(ruled, function, values);
-            match limits::take_met() {
-                None => write(value, out),
-                Some(number) => {
-                    assert!(matches!(value, Value::Null), "refusal {number} and an answer");
-                    refused(number, out)
-                }
-            }
+        Reading::Ruled(departures) => match ruled(departures, function, values) {
+            Ok(value) => write(value, out),
+            Err(number) => refused(number, out),
+        },
+    }
+}
+
+/// What 01 gives, or its refusal 5 or 6.
+pub fn ruled(
+    departures: Departures,
+    function: Function,
+    values: Vec<ValueRef>,
+) -> Result<Value, u8> {
+    limits::switch(departures);
+    let value = call!(ruled, function, values);
+    match limits::take_met() {
+        None => Ok(value),
+        Some(number) => {
+            assert!(matches!(value, Value::Null), "refusal {number} and an answer");
+            Err(number)
         }
     }
 }
@@ -193,7 +202,7 @@ fn misshapen(line: &[u8], function: Function) -> bool {
 }
 
 /// The Rust's text is UTF-8; other bytes are a blob to it.
-fn value(field: &[u8]) -> ValueRef<'_> {
+pub fn value(field: &[u8]) -> ValueRef<'_> {
     match std::str::from_utf8(field) {
         Ok(text) => ValueRef::Text(TextRef::new(text, TextSubtype::Text)),
         Err(_) => ValueRef::Blob(field),

@@ -1,6 +1,7 @@
 //! The Rust's date and time functions, built from its own file, to hold the
 //! port against. README.md has the commands.
 
+mod calls;
 mod compare;
 mod days;
 mod departures;
@@ -48,7 +49,9 @@ oracle stored READINGS LINES         the stored input of the program dates
 oracle values LIST                   time values: the list's, and generated ones
 oracle values < VALUES               what julianday and unixepoch give for each
 oracle shifts LIST                   calls of julianday with modifiers: the list's, and
-                                     generated ones";
+                                     generated ones
+oracle limits N SEED                 calls at every limit, and N generated ones
+oracle limits < CALLS                what each gives back";
 
 const BUFFER: usize = 1 << 16;
 
@@ -91,6 +94,13 @@ fn main() -> ExitCode {
         ["values", list] => values::list(list, output).map(|()| true),
         ["shifts", list] => shifts::list(list, output).map(|()| true),
         ["values"] => values::answers(input, output).map(|()| true),
+        ["limits", count, seed] => {
+            let (Ok(count), Ok(seed)) = (count.parse(), seed.parse()) else {
+                return usage();
+            };
+            calls::list(count, seed, output).map(|()| true)
+        }
+        ["limits"] => calls::answers(input, output).map(|()| true),
         _ => return usage(),
     };
     match good {

@@ -75,7 +75,6 @@ pub mod types {
     /// What a function is given.
     #[derive(Clone, Copy)]
     pub enum ValueRef<'a> {
-        #[allow(dead_code)] // No line holds one.
         Null,
         Numeric(Numeric),
         Text(TextRef<'a>),

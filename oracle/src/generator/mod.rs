@@ -13,7 +13,7 @@ use format::format;
 pub use format::LETTERS;
 use modifiers::{across, chain, from_before, limited_units, modifier, small_number};
 use numbers::{julian_day, spaced_number, tie, unix_seconds};
-use random::Random;
+pub use random::Random;
 use stamps::Stamp;
 use std::io::{self, Write};
 use values::{plain_value, time_value, word};
@@ -91,6 +91,26 @@ fn lines(count: u64, r: &mut Random, shares: &[usize], output: &mut impl Write) 
         output.write_all(&line)?;
     }
     Ok(())
+}
+
+/// A line of any theme but damage, without its newline.
+pub fn call(r: &mut Random) -> Vec<u8> {
+    let shares: Vec<usize> = THEMES.iter().map(|t| if t.0 == "damage" { 0 } else { t.1 }).collect();
+    let (_, _, theme) = THEMES[r.weighed(&shares)];
+    let mut line = Vec::new();
+    theme(r, &mut line);
+    line
+}
+
+/// A number that is mostly a Julian day, or seconds that `unixepoch` takes.
+pub fn number(r: &mut Random) -> f64 {
+    let mut text = Vec::new();
+    if r.one_in(2) {
+        julian_day(r, &mut text);
+    } else {
+        unix_seconds(r, &mut text);
+    }
+    String::from_utf8(text).unwrap().parse().unwrap()
 }
 
 /// One time value, read by any function; now and then a modifier.
