@@ -1,0 +1,46 @@
+-- `lines::answers::show_integer` meets its contract. Assumes nothing.
+use mathlib.Core.Path.{ap, _∙_}
+use native.Mathlib.Omega.{arith}
+use borrow.Author.Needs.{needs}
+use lib.IntN.{ℤ}
+use lib.ListN.{length}
+use mir.Syntax.{w64}
+use mir.ValLaws.{toZ-ofZ}
+use Rattle.rules.specs.Program.{shown}
+use Rattle.rules.specs.Writing.{integerText}
+use Rattle.digits.proofs.Buffer.{laid-as}
+use Rattle.lines.proofs.Showing.{no-room, laid}
+use Rattle.lines.proofs.answers.show_integer.Statement.{statement}
+use Rattle.lines.proofs.answers.show_integer.Tie as tie
+
+integer-length-requires : tie.Need-integer-length-requires
+integer-length-requires c κs = search needs
+
+returns : tie.Need-returns
+unfolding shown
+returns c =
+    let s = c .before .before .before in
+    no-room _ _ _ (c .before .integer-length .ensures ∙ ap (λ (z : ℤ). length (integerText z)) (toZ-ofZ w64 (s .args .n) (s .fits .n))) (c .if1 .taken)
+
+put-integer-requires : tie.Need-put-integer-requires
+put-integer-requires c κs = search needs
+
+same-length : tie.Need-same-length
+same-length c = search needs
+
+returns-2 : tie.Need-returns-2
+unfolding shown
+returns-2 c =
+    let s = c .before .before .before .before .before .before .before in
+    let e = toZ-ofZ w64 (s .args .n) (s .fits .n) in
+    laid (laid-as (ap integerText e) (c .before .before .put-integer .ensures)) (omega (arith, c .before .before .before .before .before .integer-length .ensures, ap (λ (z : ℤ). length (integerText z)) e, c .before .before .before .before .if1 .left))
+
+pub show-integer-spec : {M : Type 1} → statement M
+show-integer-spec =
+    tie.close
+    (tie.spec
+    integer-length-requires
+    returns
+    put-integer-requires
+    same-length
+    returns-2)

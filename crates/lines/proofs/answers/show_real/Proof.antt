@@ -1,0 +1,27 @@
+-- `lines::answers::show_real` meets its contract. Assumes nothing.
+use mathlib.Core.Path.{sym}
+use native.Mathlib.Omega.{arith}
+use borrow.Author.Needs.{needs}
+use lib.Ieee.{binary64, toBits}
+use Rattle.rules.specs.Program.{shown}
+use Rattle.digits.proofs.Hex.{length-hex}
+use Rattle.lines.proofs.Showing.{no-room, laid}
+use Rattle.lines.proofs.answers.show_real.Statement.{statement}
+use Rattle.lines.proofs.answers.show_real.Tie as tie
+
+returns : tie.Need-returns
+unfolding shown
+returns c = no-room _ _ _ (sym (length-hex 16 _)) (c .if1 .taken)
+
+put-hex-requires : tie.Need-put-hex-requires
+put-hex-requires c κs = (c .before .before .before .pre, record { fits = omega (arith, length-hex 16 (toBits binary64 (c .before .before .before .args .x)), c .before .if1 .left) })
+
+same-length : tie.Need-same-length
+same-length c = search needs
+
+returns-2 : tie.Need-returns-2
+unfolding shown
+returns-2 c = laid (c .before .before .put-hex .ensures) (omega (arith, length-hex 16 (toBits binary64 (c .before .before .before .before .before .before .args .x)), c .before .before .before .before .if1 .left))
+
+pub show-real-spec : {M : Type 1} → statement M
+show-real-spec = tie.close (tie.spec returns put-hex-requires same-length returns-2)
