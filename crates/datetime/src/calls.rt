@@ -37,10 +37,13 @@ fn fault_of_text(s: &[u8], most: usize) -> Fault
 fn fault_of_value(given: Given, s: &[u8]) -> Fault
     ensures { λ r. ⌜ r ≡ faultIn (over 255 (bytesOf (valueOf given (now (s .entry))))) (high (bytesOf (valueOf given (now (s .entry))))) ⌝ }
 {
-    let Given::Bytes = given else {
-        return Fault::Nothing;
-    };
-    fault_of_text(s, 255)
+    match given {
+        Given::Bytes => fault_of_text(s, 255),
+        Given::Absent => Fault::Nothing,
+        Given::Null => Fault::Nothing,
+        Given::Integer(_) => Fault::Nothing,
+        Given::Real(_) => Fault::Nothing,
+    }
 }
 
 // 2 of either before 3 of either.
@@ -57,10 +60,11 @@ fn either(a: Fault, b: Fault) -> Fault
 fn bytes_or(b: Fault) -> Fault
     ensures { λ r. ⌜ r ≡ eitherOf Fault.Bytes b ⌝ }
 {
-    let Fault::Shape = b else {
-        return Fault::Bytes;
-    };
-    Fault::Shape
+    match b {
+        Fault::Shape => Fault::Shape,
+        Fault::Bytes => Fault::Bytes,
+        Fault::Nothing => Fault::Bytes,
+    }
 }
 
 // Whether a call is let through to reading.

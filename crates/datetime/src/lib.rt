@@ -7,7 +7,7 @@
 // A time value is what is `given`; where that is Bytes, they are `value`. Modifiers lie in one buffer, each ended by a zero byte.
 ghost use mathlib.Core.Path.{_≡_};
 ghost use lib.ListN.{length};
-ghost use Rattle.rules.specs.Calls.{valueOf, call, strftime, text, answered, after};
+ghost use Rattle.rules.specs.Calls.{valueOf, call, strftime, answered, after};
 ghost use Rattle.rules.specs.Functions.{answer};
 ghost use Rattle.rules.specs.Functions as rule;
 ghost use Rattle.rules.specs.declared.Function.{Function};

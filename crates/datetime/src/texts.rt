@@ -13,6 +13,8 @@ ghost use Rattle.rules.specs.declared.Function.{Function};
 ghost use Rattle.calendar.specs.Ranges.{InRange};
 ghost use Rattle.moment.specs.Held.{held};
 ghost use Rattle.moment.specs.Ranges.{Full};
+ghost use Rattle.digits.specs.Writers.{Room};
+ghost use Rattle.writing.specs.Formats.{textOf, IsText};
 ghost use Rattle.datetime.specs.Given.{Gives, formattedOf};
 use digits::put_byte;
 use moment::Moment;
@@ -88,7 +90,10 @@ pub fn formatted(p: Moment, format: &[u8], out: &mut [u8]) -> Answer
 }
 
 // A format that is let through, in room that suffices.
-fn put(p: Moment, format: &[u8], out: &mut [u8]) -> Answer {
+fn put(p: Moment, format: &[u8], out: &mut [u8]) -> Answer
+    requires { ⌜ Full (held p) ⌝ ∗ ⌜ IsText (rule.formatted (held p) (now format)) ⌝ ∗ ⌜ Room (now out) 0 (textOf (rule.formatted (held p) (now format))) ⌝ }
+    ensures { λ r. ⌜ Gives (formattedOf (held p) (now (format .entry))) (now (out .entry)) (now (out .exit)) r ⌝ }
+{
     match writing::put_format(out, 0, p, format) {
         Put::At(n) => Answer::Text(n),
         Put::Refused(r) => Answer::Refused(r),

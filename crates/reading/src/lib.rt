@@ -8,7 +8,7 @@ ghost use Prim.Native.Nat.{_≤_};
 ghost use lib.ListN.{length, drop};
 ghost use Rattle.rules.specs.Basics as rule;
 ghost use Rattle.rules.specs.Basics.{_or_};
-ghost use Rattle.rules.specs.Calls.{valueOf};
+ghost use Rattle.rules.specs.Calls.{valueOf, bytesOf};
 ghost use Rattle.rules.specs.Moments.{noZone};
 ghost use Rattle.rules.specs.Reading as reading;
 ghost use Rattle.reading.specs.Readers.{hourMinute, hourMinuteOf, UpTo, minutesOf, zoneOf, secondsOf, timeOf, eastBy, westBy, FewMinutes, ZoneHeld, SecondsHeld, TimeHeld, yearMonthDay, ymdOf, InYear, heldYear, formOf, FormHeld, subsecValue};
@@ -367,7 +367,7 @@ pub fn text_value(s: &[u8], clock: u64) -> Step
 
 // "A time value is absent (read as `now`), null, bytes, a 64-bit signed integer or an f64." The bytes stand in s.
 pub fn time_value(given: Given, s: &[u8], clock: u64) -> Step
-    requires { ⌜ length (now s) ≤ 255 ⌝ ∗ ⌜ clock ≤ 253402300799999 ⌝ }
+    requires { ⌜ length (bytesOf (valueOf given (now s))) ≤ 255 ⌝ ∗ ⌜ clock ≤ 253402300799999 ⌝ }
     ensures { λ r. ⌜ readOf r ≡ reading.timeValue clock (valueOf given (now (s .entry))) ⌝ }
     ensures { λ r. ⌜ Lands (After 0) r ⌝ }
 {

@@ -1,43 +1,38 @@
+-- `datetime::strftime` meets its contract. Assumes nothing.
+use Prim.Native.Nat.{_≤_}
 use borrow.Author.Needs.{needs}
+use lib.ListN.{length}
+use denote.Ref.{now}
+use Rattle.rules.specs.Moments.{Moment}
+use Rattle.datetime.specs.Opened.{Ready}
+use Rattle.datetime.proofs.Given.{stated, gives-refusal}
+use Rattle.datetime.proofs.Answers.{landed, filled, strftime-refused, strftime-answer}
 use Rattle.datetime.proofs.strftime.Statement.{statement}
 use Rattle.datetime.proofs.strftime.Tie as tie
-use Rattle.datetime.proofs.strftime.Reads as reads
-use Rattle.datetime.proofs.strftime.Lts as lts
-use Rattle.datetime.proofs.calls.moment_for.Reads as moment-for-reads
-use Rattle.datetime.proofs.texts.formatted.Reads as formatted-reads
-use Rattle.moment.proofs.Moment.fill.Reads as fill-reads
 
--- src/lib.rt:108:11
 moment-for-requires : tie.Need-moment-for-requires
 moment-for-requires c κs = search needs
 
--- src/lib.rt:109:20
 enum-known-p : tie.Need-enum-known-p
 enum-known-p c = search needs
 
--- src/lib.rt:109:43
 fill-requires : tie.Need-fill-requires
-fill-requires c κs = ?
+fill-requires c κs = landed Ready _ (c .before .p .given .1) (c .before .before .before .moment-for .ensures .1 .0) .after .sane
 
--- src/lib.rt:109:26
 formatted-requires : tie.Need-formatted-requires
-formatted-requires c κs = ?
+formatted-requires c κs = (filled (landed Ready _ (c .before .before .before .p .given .1) (c .before .before .before .before .before .moment-for .ensures .1 .0)) (c .before .fill .ensures .is), landed (λ (_ : Moment). length (now (c .before .before .before .before .before .before .before .before .before .before .args .format)) ≤ 1024) _ (c .before .before .before .p .given .1) (c .before .before .before .before .before .moment-for .ensures .1 .1))
 
--- src/lib.rt:110:23
 enum-known-r : tie.Need-enum-known-r
 enum-known-r c = search needs
 
--- src/lib.rt:97:1
 same-length : tie.Need-same-length
 same-length c = search needs
 
--- src/lib.rt:97:1
 returns : tie.Need-returns
-returns c = ?
+returns c = stated (strftime-answer _ _ _ _ _ (c .before .before .before .before .before .before .before .before .moment-for .ensures .0) _ (c .before .before .before .before .before .before .p .given .1) _ (c .before .before .before .before .fill .ensures .is)) (c .before .before .formatted .ensures)
 
--- src/lib.rt:97:1
 returns-2 : tie.Need-returns-2
-returns-2 c = ?
+returns-2 c = stated (strftime-refused _ _ _ _ _ (c .before .before .before .moment-for .ensures .0) _ (c .before .r .given .1)) (gives-refusal _ _)
 
 pub strftime-spec : {M : Type 1} → statement M
 strftime-spec =

@@ -1,11 +1,12 @@
 use mir.Facts.{toZ-ofZ}
 use lib.Ieee.{binary64, ofInt}
-use Prim.Native.Nat.{ℕ}
-use mathlib.Core.Path.{_≡_, sym, ap, _∙_}
+use Prim.Native.Nat.{ℕ, _≤_}
+use mathlib.Core.Path.{_≡_, sym, ap, _∙_, subst}
 use mathlib.Core.List.{List}
 use denote.Ref.{now}
+use lib.ListN.{length}
 use Rattle.rules.specs.Basics.{Read, got}
-use Rattle.rules.specs.Calls.{valueOf}
+use Rattle.rules.specs.Calls.{valueOf, bytesOf}
 use Rattle.rules.specs.Reading.{rawNumber, timeValue}
 use Rattle.rules.specs.Reading.{now as now·rule}
 use Rattle.rules.specs.declared.Given.{Given}
@@ -29,7 +30,7 @@ enum-told-3 : tie.Need-enum-told-3
 enum-told-3 c = search needs
 
 text-value-requires : tie.Need-text-value-requires
-text-value-requires c κs = search needs
+text-value-requires c κs = let a = c .before .before .before .args in (subst (λ (g : Given). length (bytesOf (valueOf g (now (a .s)))) ≤ 255) (c .enum-told3 .given .1) (c .before .before .before .pre .0), c .before .before .before .pre .1)
 
 enum-known-given : tie.Need-enum-known-given
 enum-known-given c = search needs

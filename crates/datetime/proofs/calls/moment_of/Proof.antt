@@ -1,49 +1,51 @@
+-- `datetime::calls::moment_of` meets its contract. Assumes nothing.
+use mathlib.Core.Path.{_≡_, sym, ap, ap₂, _∙_}
+use denote.Ref.{now}
+use Rattle.rules.specs.Calls.{Call, call, Value, valueOf}
+use Rattle.rules.specs.Functions.{momentOf}
+use Rattle.rules.specs.declared.Function.{Function}
+use Rattle.modifiers.specs.declared.buffer.Fault.{Fault}
+use Rattle.datetime.specs.Faults.{eitherOf, gated}
+use Rattle.datetime.proofs.Faults.{of-call, gateOf, Passed, passed, stopped, let-through, value-short}
 use borrow.Author.Needs.{needs}
 use Rattle.datetime.proofs.calls.moment_of.Statement.{statement}
 use Rattle.datetime.proofs.calls.moment_of.Tie as tie
-use Rattle.datetime.proofs.calls.moment_of.Reads as reads
-use Rattle.datetime.proofs.calls.moment_of.Lts as lts
-use Rattle.datetime.proofs.calls.either.Reads as either-reads
-use Rattle.datetime.proofs.calls.fault_of_value.Reads as fault-of-value-reads
-use Rattle.datetime.proofs.calls.read.Reads as read-reads
-use Rattle.datetime.proofs.calls.tested.Reads as tested-reads
-use Rattle.modifiers.proofs.buffer.fault_of.Reads as fault-of-reads
 
--- src/calls.rt:122:24
+abbrev asked : tie.Start → Call
+asked d = call Function.Date (valueOf (d .args .given) (now (d .args .value))) (now (d .args .modifiers))
+
+gate : (c : tie.After-tested) → c .tested .result ≡ gateOf (c .before .before .before .before .before .before .args .set) (asked (c .before .before .before .before .before .before))
+gate c = c .tested .ensures ∙ ap (λ (f : Fault). gated f (c .before .before .before .before .before .before .args .set)) (c .before .either .ensures ∙ ap₂ eitherOf (c .before .before .before .fault-of-value .ensures) (c .before .before .fault-of .ensures) ∙ of-call (valueOf (c .before .before .before .before .before .before .args .given) (now (c .before .before .before .before .before .before .args .value))) (now (c .before .before .before .before .before .before .args .modifiers)) Function.Date)
+
+through : (c : tie.After-enum-told) → Passed (c .before .before .before .before .before .before .before .before .args .set) (asked (c .before .before .before .before .before .before .before .before))
+through c = passed (c .before .before .before .before .before .before .before .before .args .set) (asked (c .before .before .before .before .before .before .before .before)) (sym (gate (c .before .before)) ∙ c .enum-told .given .1)
+
 fault-of-value-requires : tie.Need-fault-of-value-requires
 fault-of-value-requires c κs = search needs
 
--- src/calls.rt:122:54
 fault-of-requires : tie.Need-fault-of-requires
 fault-of-requires c κs = search needs
 
--- src/calls.rt:122:9
 either-requires : tie.Need-either-requires
 either-requires c κs = search needs
 
--- src/calls.rt:123:11
 tested-requires : tie.Need-tested-requires
 tested-requires c κs = search needs
 
--- src/calls.rt:124:23
 enum-told : tie.Need-enum-told
 enum-told c = search needs
 
--- src/calls.rt:124:23
 read-requires : tie.Need-read-requires
-read-requires c κs = ?
+read-requires c κs = let p = through c in let s = value-short p in (s .0, s .1, p .setting)
 
--- src/calls.rt:125:23
 enum-known-r : tie.Need-enum-known-r
 enum-known-r c = search needs
 
--- src/calls.rt:118:1
 returns : tie.Need-returns
-returns c = ?
+returns c = (c .read .ensures .0 ∙ let-through _ (through (c .before)), c .read .ensures .1)
 
--- src/calls.rt:118:1
 returns-2 : tie.Need-returns-2
-returns-2 c = ?
+returns-2 c = let d = c .before .before .before .before .before .before .before .before .before in (stopped (d .args .set) (asked d) (momentOf (d .args .set) (valueOf (d .args .given) (now (d .args .value))) (now (d .args .modifiers))) (sym (gate (c .before .before .before)) ∙ c .before .r .given .1), tt)
 
 pub moment-of-spec : {M : Type 1} → statement M
 moment-of-spec =

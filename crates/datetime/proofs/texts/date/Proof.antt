@@ -1,30 +1,25 @@
+-- `datetime::texts::date` meets its contract. Assumes nothing.
+use native.Mathlib.Omega.{arith}
 use borrow.Author.Needs.{needs}
+use Rattle.datetime.proofs.Given.{gives-text, gives-length}
+use Rattle.datetime.proofs.Answers.{printable}
 use Rattle.datetime.proofs.texts.date.Statement.{statement}
 use Rattle.datetime.proofs.texts.date.Tie as tie
-use Rattle.datetime.proofs.texts.date.Reads as reads
-use Rattle.datetime.proofs.texts.date.Lts as lts
-use Rattle.writing.proofs.date_length.Reads as date-length-reads
-use Rattle.writing.proofs.put_date.Reads as put-date-reads
 
--- src/texts.rt:27:9
 date-length-requires : tie.Need-date-length-requires
-date-length-requires c κs = search needs
+date-length-requires c κs = printable (c .before .pre)
 
--- src/texts.rt:29:9
 returns : tie.Need-returns
-returns c = ?
+returns c = gives-length (c .before .date-length .ensures .0) (c .if1 .taken)
 
--- src/texts.rt:31:18
 put-date-requires : tie.Need-put-date-requires
-put-date-requires c κs = search needs
+put-date-requires c κs = (printable (c .before .before .before .before .pre), record { fits = omega (arith, c .before .before .date-length .ensures .0, c .before .if1 .left) })
 
--- src/texts.rt:23:1
 same-length : tie.Need-same-length
 same-length c = search needs
 
--- src/texts.rt:23:1
 returns-2 : tie.Need-returns-2
-returns-2 c = ?
+returns-2 c = gives-text (omega (arith, c .before .before .before .before .before .date-length .ensures .0, c .before .before .before .before .if1 .left)) (c .before .before .put-date .ensures)
 
 pub date-spec : {M : Type 1} → statement M
 date-spec =

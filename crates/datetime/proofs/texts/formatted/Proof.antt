@@ -1,59 +1,53 @@
+-- `datetime::texts::formatted` meets its contract. Assumes nothing.
+use native.Mathlib.Omega.{arith}
 use borrow.Author.Needs.{needs}
+use denote.Ref.{now}
+use Rattle.rules.specs.Writing as rule
+use Rattle.moment.specs.Held.{held}
+use Rattle.datetime.proofs.Given.{Passes, check-passes, check-gives, format-length}
+use Rattle.datetime.proofs.Answers.{printable}
 use Rattle.datetime.proofs.texts.formatted.Statement.{statement}
 use Rattle.datetime.proofs.texts.formatted.Tie as tie
-use Rattle.datetime.proofs.texts.formatted.Reads as reads
-use Rattle.datetime.proofs.texts.formatted.Lts as lts
-use Rattle.datetime.proofs.texts.put.Reads as put-reads
-use Rattle.writing.proofs.check.Reads as check-reads
-use Rattle.writing.proofs.format_length.Reads as format-length-reads
 
--- src/texts.rt:75:11
+-- a format that is let through
+passes : (c : tie.After-known-told2) → Passes (rule.formatted (held (c .before .before .before .before .before .before .args .p)) (now (c .before .before .before .before .before .before .args .format))) (c .before .most .given .0 .0)
+passes c = check-passes _ _ _ _ (c .before .most .given .1) (c .before .before .before .check .ensures)
+
 check-requires : tie.Need-check-requires
-check-requires c κs = search needs
+check-requires c κs = (printable (c .before .before .pre .0), omega arith)
 
--- src/texts.rt:76:26
 enum-known-r : tie.Need-enum-known-r
 enum-known-r c = search needs
 
--- src/texts.rt:77:23
 enum-known-most : tie.Need-enum-known-most
 enum-known-most c = search needs
 
--- src/texts.rt:79:17
 put-requires : tie.Need-put-requires
-put-requires c κs = search needs
+put-requires c κs = (c .before .before .before .before .before .before .before .before .pre .0, (passes (c .before .before) .isText, record { fits = omega (arith, passes (c .before .before) .short, c .before .if1 .taken) }))
 
--- src/texts.rt:79:17
 same-length : tie.Need-same-length
 same-length c = search needs
 
--- src/texts.rt:79:17
 returns : tie.Need-returns
-returns c = ?
+returns c = c .before .before .put .ensures
 
--- src/texts.rt:81:17
 format-length-requires : tie.Need-format-length-requires
-format-length-requires c κs = ?
+format-length-requires c κs = (printable (c .before .before .before .before .before .before .before .pre .0), (omega arith, passes (c .before) .isText))
 
--- src/texts.rt:83:17
 returns-2 : tie.Need-returns-2
-returns-2 c = ?
+returns-2 c = format-length _ _ (passes (c .before .before .before) .isText) (c .before .format-length .ensures) (c .if2 .taken)
 
--- src/texts.rt:85:13
 put-requires-2 : tie.Need-put-requires-2
-put-requires-2 c κs = search needs
+put-requires-2 c κs = (c .before .before .before .before .before .before .before .before .before .before .pre .0, (passes (c .before .before .before .before) .isText, record { fits = omega (arith, c .before .before .format-length .ensures, c .before .if2 .left) }))
 
--- src/texts.rt:71:1
 returns-3 : tie.Need-returns-3
-returns-3 c = ?
+returns-3 c = check-gives _ _ _ _ _ (c .before .r .given .1) (c .before .before .before .check .ensures)
 
--- src/texts.rt:71:1
 same-length-2 : tie.Need-same-length-2
 same-length-2 c = search needs
 
--- src/texts.rt:71:1
 returns-4 : tie.Need-returns-4
-returns-4 c = ?
+returns-4 c = c .before .before .put2 .ensures
 
 pub formatted-spec : {M : Type 1} → statement M
 formatted-spec =

@@ -1,37 +1,30 @@
+-- `datetime::texts::put` meets its contract. Assumes nothing.
 use borrow.Author.Needs.{needs}
+use Rattle.datetime.proofs.Given.{put-gives, put-refuses}
+use Rattle.datetime.proofs.Answers.{printable}
 use Rattle.datetime.proofs.texts.put.Statement.{statement}
 use Rattle.datetime.proofs.texts.put.Tie as tie
-use Rattle.datetime.proofs.texts.put.Reads as reads
-use Rattle.datetime.proofs.texts.put.Lts as lts
-use Rattle.writing.proofs.put_format.Reads as put-format-reads
 
--- src/texts.rt:92:11
 put-format-requires : tie.Need-put-format-requires
-put-format-requires c κs = ?
+put-format-requires c κs = let s = c .before .before .before in (printable (s .pre .0), s .pre .1)
 
--- src/texts.rt:93:17
 enum-known-n : tie.Need-enum-known-n
 enum-known-n c = search needs
 
--- src/texts.rt:94:22
 enum-known-r : tie.Need-enum-known-r
 enum-known-r c = search needs
 
--- src/texts.rt:91:1
 same-length : tie.Need-same-length
 same-length c = search needs
 
--- src/texts.rt:91:1
 returns : tie.Need-returns
-returns c = search needs
+returns c = put-gives _ _ _ (c .before .before .before .before .before .before .before .before .before .pre .1 .1) (c .before .n .given .1) (c .before .before .before .before .before .put-format .ensures)
 
--- src/texts.rt:91:1
 same-length-2 : tie.Need-same-length-2
 same-length-2 c = search needs
 
--- src/texts.rt:91:1
 returns-2 : tie.Need-returns-2
-returns-2 c = search needs
+returns-2 c = put-refuses _ _ _ (c .before .r .given .1) (c .before .before .before .before .before .put-format .ensures)
 
 pub put-spec : {M : Type 1} → statement M
 put-spec =

@@ -1,30 +1,25 @@
+-- `datetime::texts::time` meets its contract. Assumes nothing.
+use native.Mathlib.Omega.{arith}
 use borrow.Author.Needs.{needs}
+use Rattle.datetime.proofs.Given.{gives-text, gives-length}
+use Rattle.datetime.proofs.Answers.{printable}
 use Rattle.datetime.proofs.texts.time.Statement.{statement}
 use Rattle.datetime.proofs.texts.time.Tie as tie
-use Rattle.datetime.proofs.texts.time.Reads as reads
-use Rattle.datetime.proofs.texts.time.Lts as lts
-use Rattle.writing.proofs.put_time.Reads as put-time-reads
-use Rattle.writing.proofs.time_length.Reads as time-length-reads
 
--- src/texts.rt:38:9
 time-length-requires : tie.Need-time-length-requires
-time-length-requires c κs = search needs
+time-length-requires c κs = printable (c .before .pre)
 
--- src/texts.rt:40:9
 returns : tie.Need-returns
-returns c = ?
+returns c = gives-length (c .before .time-length .ensures .0) (c .if1 .taken)
 
--- src/texts.rt:42:18
 put-time-requires : tie.Need-put-time-requires
-put-time-requires c κs = search needs
+put-time-requires c κs = (printable (c .before .before .before .before .pre), record { fits = omega (arith, c .before .before .time-length .ensures .0, c .before .if1 .left) })
 
--- src/texts.rt:34:1
 same-length : tie.Need-same-length
 same-length c = search needs
 
--- src/texts.rt:34:1
 returns-2 : tie.Need-returns-2
-returns-2 c = ?
+returns-2 c = gives-text (omega (arith, c .before .before .before .before .before .time-length .ensures .0, c .before .before .before .before .if1 .left)) (c .before .before .put-time .ensures)
 
 pub time-spec : {M : Type 1} → statement M
 time-spec =

@@ -1,26 +1,23 @@
+-- `datetime::texts::unix` meets its contract. Assumes nothing.
+use mathlib.Core.Path.{_∙_}
+use mir.Syntax.{w64}
+use mir.ValLaws.{toZ-ofZ}
 use borrow.Author.Needs.{needs}
+use Rattle.datetime.proofs.Answers.{unix-real-is, unix-seconds-is}
 use Rattle.datetime.proofs.texts.unix.Statement.{statement}
 use Rattle.datetime.proofs.texts.unix.Tie as tie
-use Rattle.datetime.proofs.texts.unix.Reads as reads
-use Rattle.datetime.proofs.texts.unix.Lts as lts
-use Rattle.real.proofs.unix_real.Reads as unix-real-reads
-use Rattle.real.proofs.unix_seconds.Reads as unix-seconds-reads
 
--- src/texts.rt:65:29
 unix-real-requires : tie.Need-unix-real-requires
 unix-real-requires c κs = search needs
 
--- src/texts.rt:65:9
 returns : tie.Need-returns
-returns c = ?
+returns c = unix-real-is _ _ (c .before .if1 .taken) (c .unix-real .ensures)
 
--- src/texts.rt:67:21
 unix-seconds-requires : tie.Need-unix-seconds-requires
 unix-seconds-requires c κs = search needs
 
--- src/texts.rt:60:1
 returns-2 : tie.Need-returns-2
-returns-2 c = ?
+returns-2 c = unix-seconds-is _ _ (c .before .if1 .left) (toZ-ofZ w64 _ (record { sfits = c .unix-seconds .ok }) ∙ c .unix-seconds .ensures)
 
 pub unix-spec : {M : Type 1} → statement M
 unix-spec = tie.close (tie.spec unix-real-requires returns unix-seconds-requires returns-2)

@@ -1,0 +1,11 @@
+-- Laws of what a call is, once nothing refuses it.
+-- the tests before reading, and what is then read
+pub mod Opened
+-- what refuses a call, as the code finds it
+pub mod Faults
+-- the moment of a call
+pub mod Moments
+-- what is given back of an outcome: a text in the lent buffer, or a refusal
+pub mod Given
+-- from the moment to the outcome
+pub mod Answers
