@@ -37,20 +37,26 @@ both-false true t h = never h
 both-false false t h = (refl, h)
 
 -- ---- of all of a call's arguments
+abbrev pub textFault : ℕ → List ℕ → Fault
+textFault most s = faultIn (over most s) (high s)
+
+abbrev pub valueFault : Value → Fault
+valueFault v = textFault 255 (bytesOf v)
+
 module _ (v : Value) (m : List ℕ) where
   -- a time value and the modifiers
-  others : eitherOf (faultIn (over 255 (bytesOf v)) (high (bytesOf v))) (faultOf m) ≡ faultIn (over 255 (bytesOf v) || modifiersBad m) (high (bytesOf v) || high m)
+  others : eitherOf (valueFault v) (faultOf m) ≡ faultIn (over 255 (bytesOf v) || modifiersBad m) (high (bytesOf v) || high m)
   others = either-in (over 255 (bytesOf v)) (high (bytesOf v)) (modifiersBad m) (high m)
 
-  pub of-call : (f : Function) → eitherOf (faultIn (over 255 (bytesOf v)) (high (bytesOf v))) (faultOf m) ≡ faultIn (badShape (call f v m)) (badBytes (call f v m))
+  pub of-call : (f : Function) → eitherOf (valueFault v) (faultOf m) ≡ faultIn (badShape (call f v m)) (badBytes (call f v m))
   unfolding badShape badBytes
   of-call f = others
 
-  pub of-strftime : (f : List ℕ) → eitherOf (faultIn (over 1024 f) (high f)) (eitherOf (faultIn (over 255 (bytesOf v)) (high (bytesOf v))) (faultOf m)) ≡ faultIn (badShape (strftime f v m)) (badBytes (strftime f v m))
+  pub of-strftime : (f : List ℕ) → eitherOf (textFault 1024 f) (eitherOf (valueFault v) (faultOf m)) ≡ faultIn (badShape (strftime f v m)) (badBytes (strftime f v m))
   unfolding badShape badBytes
-  of-strftime f = ap (eitherOf (faultIn (over 1024 f) (high f))) others ∙ either-in (over 1024 f) (high f) (over 255 (bytesOf v) || modifiersBad m) (high (bytesOf v) || high m)
+  of-strftime f = ap (eitherOf (textFault 1024 f)) others ∙ either-in (over 1024 f) (high f) (over 255 (bytesOf v) || modifiersBad m) (high (bytesOf v) || high m)
 
-pub of-timediff : (a b : Value) → eitherOf (faultIn (over 255 (bytesOf a)) (high (bytesOf a))) (faultIn (over 255 (bytesOf b)) (high (bytesOf b))) ≡ faultIn (badShape (timediff a b)) (badBytes (timediff a b))
+pub of-timediff : (a b : Value) → eitherOf (valueFault a) (valueFault b) ≡ faultIn (badShape (timediff a b)) (badBytes (timediff a b))
 unfolding badShape badBytes
 of-timediff a b = either-in (over 255 (bytesOf a)) (high (bytesOf a)) (over 255 (bytesOf b)) (high (bytesOf b))
 
@@ -154,24 +160,21 @@ else-west (negsuc n) h = leb·suc-suc 86399 n
 
 -- ---- a text, and a time value
 module _ (most : ℕ) (s : List ℕ) where
-  pub too-long : most < length s → fault.Shape ≡ faultIn (over most s) (high s)
+  pub too-long : most < length s → fault.Shape ≡ textFault most s
   too-long h = rw (lt-ltb most (length s) h)
 
-  pub with-high : length s ≤ most → every (λ b. leb b 127) s ≡ false → fault.Bytes ≡ faultIn (over most s) (high s)
+  pub with-high : length s ≤ most → every (λ b. leb b 127) s ≡ false → fault.Bytes ≡ textFault most s
   unfolding high
   with-high h e = rw (le-ltb most (length s) h, e)
 
-  pub plain : length s ≤ most → every (λ b. leb b 127) s ≡ true → fault.Nothing ≡ faultIn (over most s) (high s)
+  pub plain : length s ≤ most → every (λ b. leb b 127) s ≡ true → fault.Nothing ≡ textFault most s
   unfolding high
   plain h e = rw (le-ltb most (length s) h, e)
-
-abbrev pub valueFault : Value → Fault
-valueFault v = faultIn (over 255 (bytesOf v)) (high (bytesOf v))
 
 -- what is given, once it is known
 pub of-given : (s : List ℕ) {g x : Given} → g ≡ x → valueFault (valueOf x s) ≡ valueFault (valueOf g s)
 of-given s e = ap (λ (g : Given). valueFault (valueOf g s)) (sym e)
 
-pub no-bytes : fault.Nothing ≡ faultIn (over 255 []) (high [])
+pub no-bytes : fault.Nothing ≡ textFault 255 []
 unfolding high every
 no-bytes = refl

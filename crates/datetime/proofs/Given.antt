@@ -1,4 +1,4 @@
--- What is given back of an outcome: a text that was laid in the lent buffer, its length where it finds no room, or a refusal. Assumes nothing.
+-- What is given back of an outcome: a text laid in the lent buffer, its length where it has no room, or a refusal. Assumes nothing.
 use Prim.Native.Nat.{ℕ, _+_, _*_, _≤_, _<_}
 use mathlib.Core.List.{List, [], _∷_, _++_}
 use mathlib.Core.Path.{_≡_, refl, sym, ap, _∙_, subst}
@@ -23,12 +23,14 @@ use Rattle.writing.specs.declared.Checked.the-variants as checked
 use Rattle.datetime.specs.Given.{Gives, formattedOf}
 
 -- a text that fits, laid from the first byte on
-pub gives-text : {old s new : List ℕ} {n : ℕ} → length s ≤ length old → Laid old 0 s new n → Gives (text s) old new (Answer.Text n)
+pub gives-text : {old s new : List ℕ} {n : ℕ} → Room old 0 s → Laid old 0 s new n → Gives (text s) old new (Answer.Text n)
 unfolding answered after
-gives-text {old} {s} {new} {n} h l = record {
-  is = rw (le-leb (length s) (length old) h) (ap Answer.Text (l .place ∙ zero-add (length s)));
-  bytes = rw (le-leb (length s) (length old) h) (l .bytes ∙ sets-eq s old 0 (omega arith) ∙ ap (λ (k : ℕ). s ++ drop k old) (zero-add (length s)));
-}
+gives-text {old} {s} {new} {n} r l =
+    let h = le-leb (length s) (length old) (omega (arith, r .fits)) in
+    record {
+      is = rw h (ap Answer.Text (l .place ∙ zero-add (length s)));
+      bytes = rw h (l .bytes ∙ sets-eq s old 0 (r .fits) ∙ ap (λ (k : ℕ). s ++ drop k old) (zero-add (length s)));
+    }
 
 -- 7: the length, and no byte changes
 pub gives-length : {old s : List ℕ} {n : ℕ} → n ≡ length s → length old < n → Gives (text s) old old (Answer.NoRoom n)
@@ -75,7 +77,7 @@ no-room other t e h = absurd (omega arith)
 no-room (refuse y) t e h = absurd (omega arith)
 
 laid : (r : Read (List ℕ)) {old new : List ℕ} (n : ℕ) → Room old 0 (textOf r) → putIs r old 0 new (put.At n) → Gives (written r) old new (Answer.Text n)
-laid (got s) n f h = gives-text (omega (arith, f .fits)) h
+laid (got s) n f h = gives-text f h
 laid other n f h = absurd h
 laid (refuse y) n f h = absurd h
 

@@ -9,3 +9,5 @@ pub mod Moments
 pub mod Given
 -- from the moment to the outcome
 pub mod Answers
+-- timediff's two instants
+pub mod Instants

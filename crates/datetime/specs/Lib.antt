@@ -2,3 +2,4 @@
 pub mod Opened
 pub mod Given
 pub mod Faults
+pub mod Instants

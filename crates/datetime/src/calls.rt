@@ -6,19 +6,21 @@ ghost use mathlib.Core.Path.{_≡_};
 ghost use mathlib.Core.Bool.{Bool, not, false};
 ghost use Prim.Native.Nat.{_≤_};
 ghost use lib.ListN.{length};
-ghost use Rattle.rules.specs.Calls.{valueOf, bytesOf, over, high, modifiersBad, badSetting, call, strftime};
+ghost use Rattle.rules.specs.Calls.{valueOf, bytesOf, over, high, modifiersBad, badSetting, call, strftime, timediff};
 ghost use Rattle.rules.specs.Functions as rule;
 ghost use Rattle.rules.specs.declared.Function.{Function};
 ghost use Rattle.moment.specs.Held.{held};
-ghost use Rattle.moment.specs.Ranges.{readOf, Lands};
+ghost use Rattle.moment.specs.Ranges.{Sane, readOf, Lands};
 ghost use Rattle.datetime.specs.Opened.{opened, Ready};
+ghost use Rattle.datetime.specs.Faults.{faultIn, eitherOf, gated};
+ghost use Rattle.datetime.specs.Instants.{rangedBoth, instants, presentOf, instantsOf, BothInRange};
 use modifiers::buffer;
 use modifiers::buffer::Fault;
+use moment::Moment;
 use moment::Step;
 use rules::Given;
 use rules::Refusal;
 use rules::Setting;
-ghost use Rattle.datetime.specs.Faults.{faultIn, eitherOf, gated};
 
 // What refuses a text of at most `most` bytes: refusal 2, refusal 3, or nothing.
 fn fault_of_text(s: &[u8], most: usize) -> Fault
@@ -140,5 +142,68 @@ pub fn moment_for(set: Setting, format: &[u8], given: Given, value: &[u8], modif
     match tested(either(fault_of_text(format, 1024), others), set) {
         Gate::Open => read(set, given, value, modifiers),
         Gate::Refused(r) => Step::Refused(r),
+    }
+}
+
+// ---- timediff's two
+
+// Two instants, in milliseconds as they are held.
+pub enum Pair {
+    Are(u64, u64),
+    Refused(Refusal),
+}
+
+// "exactly two": an absent one is null.
+fn present(given: Given) -> Given
+    ensures { λ r. ⌜ r ≡ presentOf given ⌝ }
+{
+    match given {
+        Given::Absent => Given::Null,
+        Given::Null => given,
+        Given::Bytes => given,
+        Given::Integer(_) => given,
+        Given::Real(_) => given,
+    }
+}
+
+// "final range" of the first, then of the second.
+fn both_ranged(p: Moment, q: Moment) -> Pair
+    requires { ⌜ Sane (held p) × Sane (held q) ⌝ }
+    ensures { λ r. ⌜ instantsOf r ≡ rangedBoth (held p) (held q) ⌝ }
+    ensures { λ r. ⌜ BothInRange r ⌝ }
+{
+    match p.ranged() {
+        Step::Next(a) => match q.ranged() {
+            Step::Next(b) => Pair::Are(a.ms, b.ms),
+            Step::Refused(r) => Pair::Refused(r),
+        },
+        Step::Refused(r) => Pair::Refused(r),
+    }
+}
+
+// "time value (timediff's first, then its second)": both are read before either's range is tested.
+fn both(set: Setting, given_a: Given, a: &[u8], given_b: Given, b: &[u8]) -> Pair
+    requires { ⌜ (over 255 (bytesOf (valueOf «given_a» (now a))) ≡ false) × (over 255 (bytesOf (valueOf «given_b» (now b))) ≡ false) × (badSetting set ≡ false) ⌝ }
+    ensures { λ r. ⌜ instantsOf r ≡ instants set (valueOf «given_a» (now (a .entry))) (valueOf «given_b» (now (b .entry))) ⌝ }
+    ensures { λ r. ⌜ BothInRange r ⌝ }
+{
+    match reading::time_value(present(given_a), a, set.clock) {
+        Step::Next(p) => match reading::time_value(present(given_b), b, set.clock) {
+            Step::Next(q) => both_ranged(p, q),
+            Step::Refused(r) => Pair::Refused(r),
+        },
+        Step::Refused(r) => Pair::Refused(r),
+    }
+}
+
+// The two instants that a call of timediff is about.
+pub fn instants(set: Setting, given_a: Given, a: &[u8], given_b: Given, b: &[u8]) -> Pair
+    ensures { λ r. ⌜ instantsOf r ≡ opened set (timediff (valueOf «given_a» (now (a .entry))) (valueOf «given_b» (now (b .entry)))) (instants set (valueOf «given_a» (now (a .entry))) (valueOf «given_b» (now (b .entry)))) ⌝ }
+    ensures { λ r. ⌜ BothInRange r ⌝ }
+{
+    let fault = either(fault_of_value(given_a, a), fault_of_value(given_b, b));
+    match tested(fault, set) {
+        Gate::Open => both(set, given_a, a, given_b, b),
+        Gate::Refused(r) => Pair::Refused(r),
     }
 }

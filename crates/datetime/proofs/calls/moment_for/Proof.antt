@@ -16,11 +16,11 @@ use Rattle.datetime.proofs.calls.moment_for.Tie as tie
 abbrev asked : tie.Start → Call
 asked d = strftime (now (d .args .format)) (valueOf (d .args .given) (now (d .args .value))) (now (d .args .modifiers))
 
-gate : (c : tie.After-tested) → c .tested .result ≡ gateOf (c .before .before .before .before .before .before .before .before .before .args .set) (asked (c .before .before .before .before .before .before .before .before .before))
-gate c = c .tested .ensures ∙ ap (λ (f : Fault). gated f (c .before .before .before .before .before .before .before .before .before .args .set)) (c .before .either2 .ensures ∙ ap₂ eitherOf (c .before .before .fault-of-text .ensures) (c .before .before .before .either .ensures ∙ ap₂ eitherOf (c .before .before .before .before .before .fault-of-value .ensures) (c .before .before .before .before .fault-of .ensures)) ∙ of-strftime (valueOf (c .before .before .before .before .before .before .before .before .before .args .given) (now (c .before .before .before .before .before .before .before .before .before .args .value))) (now (c .before .before .before .before .before .before .before .before .before .args .modifiers)) (now (c .before .before .before .before .before .before .before .before .before .args .format)))
+gate : (c : tie.After-tested) → let d = c .before .before .before .before .before .before .before .before .before in c .tested .result ≡ gateOf (d .args .set) (asked d)
+gate c = let d = c .before .before .before .before .before .before .before .before .before in c .tested .ensures ∙ ap (λ (f : Fault). gated f (d .args .set)) (c .before .either2 .ensures ∙ ap₂ eitherOf (c .before .before .fault-of-text .ensures) (c .before .before .before .either .ensures ∙ ap₂ eitherOf (c .before .before .before .before .before .fault-of-value .ensures) (c .before .before .before .before .fault-of .ensures)) ∙ of-strftime (valueOf (d .args .given) (now (d .args .value))) (now (d .args .modifiers)) (now (d .args .format)))
 
-through : (c : tie.After-enum-told) → Passed (c .before .before .before .before .before .before .before .before .before .before .before .args .set) (asked (c .before .before .before .before .before .before .before .before .before .before .before))
-through c = passed (c .before .before .before .before .before .before .before .before .before .before .before .args .set) (asked (c .before .before .before .before .before .before .before .before .before .before .before)) (sym (gate (c .before .before)) ∙ c .enum-told .given .1)
+through : (c : tie.After-enum-told) → let d = c .before .before .before .before .before .before .before .before .before .before .before in Passed (d .args .set) (asked d)
+through c = let d = c .before .before .before .before .before .before .before .before .before .before .before in passed (d .args .set) (asked d) (sym (gate (c .before .before)) ∙ c .enum-told .given .1)
 
 fault-of-value-requires : tie.Need-fault-of-value-requires
 fault-of-value-requires c κs = search needs

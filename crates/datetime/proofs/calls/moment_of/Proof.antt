@@ -14,11 +14,11 @@ use Rattle.datetime.proofs.calls.moment_of.Tie as tie
 abbrev asked : tie.Start → Call
 asked d = call Function.Date (valueOf (d .args .given) (now (d .args .value))) (now (d .args .modifiers))
 
-gate : (c : tie.After-tested) → c .tested .result ≡ gateOf (c .before .before .before .before .before .before .args .set) (asked (c .before .before .before .before .before .before))
-gate c = c .tested .ensures ∙ ap (λ (f : Fault). gated f (c .before .before .before .before .before .before .args .set)) (c .before .either .ensures ∙ ap₂ eitherOf (c .before .before .before .fault-of-value .ensures) (c .before .before .fault-of .ensures) ∙ of-call (valueOf (c .before .before .before .before .before .before .args .given) (now (c .before .before .before .before .before .before .args .value))) (now (c .before .before .before .before .before .before .args .modifiers)) Function.Date)
+gate : (c : tie.After-tested) → let d = c .before .before .before .before .before .before in c .tested .result ≡ gateOf (d .args .set) (asked d)
+gate c = let d = c .before .before .before .before .before .before in c .tested .ensures ∙ ap (λ (f : Fault). gated f (d .args .set)) (c .before .either .ensures ∙ ap₂ eitherOf (c .before .before .before .fault-of-value .ensures) (c .before .before .fault-of .ensures) ∙ of-call (valueOf (d .args .given) (now (d .args .value))) (now (d .args .modifiers)) Function.Date)
 
-through : (c : tie.After-enum-told) → Passed (c .before .before .before .before .before .before .before .before .args .set) (asked (c .before .before .before .before .before .before .before .before))
-through c = passed (c .before .before .before .before .before .before .before .before .args .set) (asked (c .before .before .before .before .before .before .before .before)) (sym (gate (c .before .before)) ∙ c .enum-told .given .1)
+through : (c : tie.After-enum-told) → let d = c .before .before .before .before .before .before .before .before in Passed (d .args .set) (asked d)
+through c = let d = c .before .before .before .before .before .before .before .before in passed (d .args .set) (asked d) (sym (gate (c .before .before)) ∙ c .enum-told .given .1)
 
 fault-of-value-requires : tie.Need-fault-of-value-requires
 fault-of-value-requires c κs = search needs

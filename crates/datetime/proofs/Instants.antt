@@ -1,0 +1,90 @@
+-- timediff's two instants, one thing after another. Assumes nothing.
+use mathlib.Core.Bool.{false}
+use mathlib.Core.Path.{_≡_, refl, sym, ap, _∙_}
+use mathlib.Core.List.{List}
+use Prim.Native.Nat.{ℕ, _≤_}
+use borrow.Author.Tests.{ltb-false}
+use lib.ListN.{length}
+use Rattle.rules.specs.Basics.{Read, got, other, refuse, _>>=_}
+use Rattle.rules.specs.Calls.{Value, valueOf, bytesOf, over, timediff, Outcome, text}
+use Rattle.rules.specs.Functions.{present, ranged, reading}
+use Rattle.rules.specs.Moments.{Moment}
+use Rattle.rules.specs.Reading.{timeValue}
+use Rattle.rules.specs.Writing.{difference}
+use Rattle.rules.specs.declared.Given.{Given}
+use Rattle.rules.specs.declared.Refusal.{Refusal}
+use Rattle.rules.specs.declared.Setting.{Setting}
+use Rattle.datetime.specs.Instants.{rangedBoth, instants, presentOf}
+
+-- ---- what is given, where an absent one is null
+present-value : (g : Given) (s : List ℕ) → valueOf (presentOf g) s ≡ present (valueOf g s)
+present-value Given.Absent s = refl
+present-value Given.Null s = refl
+present-value Given.Bytes s = refl
+present-value (Given.Integer n) s = refl
+present-value (Given.Real x) s = refl
+
+present-bytes : (g : Given) (s : List ℕ) → bytesOf (valueOf (presentOf g) s) ≡ bytesOf (valueOf g s)
+present-bytes Given.Absent s = refl
+present-bytes Given.Null s = refl
+present-bytes Given.Bytes s = refl
+present-bytes (Given.Integer n) s = refl
+present-bytes (Given.Real x) s = refl
+
+module _ (g : Given) (s : List ℕ) {x : Given} where
+  pub present-read : (clock : ℕ) → x ≡ presentOf g → timeValue clock (valueOf x s) ≡ timeValue clock (present (valueOf g s))
+  present-read clock e = ap (λ (v : Value). timeValue clock v) (ap (λ (h : Given). valueOf h s) e ∙ present-value g s)
+
+  pub present-short : x ≡ presentOf g → over 255 (bytesOf (valueOf g s)) ≡ false → length (bytesOf (valueOf x s)) ≤ 255
+  present-short e h = rw (e, present-bytes g s) (ltb-false 255 (length (bytesOf (valueOf g s))) h)
+
+-- ---- the final range of both
+module _ (p q : Moment) where
+  pub both-are : {a b : Moment} → ranged p ≡ got a → ranged q ≡ got b → rangedBoth p q ≡ got (a .ms, b .ms)
+  unfolding rangedBoth
+  both-are e f = rw (e, f)
+
+  pub second-out : {a : Moment} {x : Refusal} → ranged p ≡ got a → ranged q ≡ refuse x → rangedBoth p q ≡ refuse x
+  unfolding rangedBoth
+  second-out e f = rw (e, f)
+
+  pub first-out : {x : Refusal} → ranged p ≡ refuse x → rangedBoth p q ≡ refuse x
+  unfolding rangedBoth
+  first-out e = rw e
+
+-- ---- both values
+module _ (set : Setting) (a b : Value) where
+  pub instants-are : {p q : Moment} → timeValue (set .clock) (present a) ≡ got p → timeValue (set .clock) (present b) ≡ got q → instants set a b ≡ rangedBoth p q
+  unfolding instants
+  instants-are e f = rw (e, f)
+
+  pub no-second : {p : Moment} {x : Refusal} → timeValue (set .clock) (present a) ≡ got p → timeValue (set .clock) (present b) ≡ refuse x → instants set a b ≡ refuse x
+  unfolding instants
+  no-second e f = rw (e, f)
+
+  pub no-first : {x : Refusal} → timeValue (set .clock) (present a) ≡ refuse x → instants set a b ≡ refuse x
+  unfolding instants
+  no-first e = rw e
+
+-- ---- and timediff's text of them
+abbrev pub differenceOf : ℕ × ℕ → Read Outcome
+differenceOf t = got (text (difference (t .0) (t .1)))
+
+ranges-text : (r s : Read Moment) → _>>=_ r (λ p. _>>=_ s (λ q. got (text (difference (p .ms) (q .ms))))) ≡ _>>=_ (_>>=_ r (λ p. _>>=_ s (λ q. got (p .ms, q .ms)))) differenceOf
+ranges-text (got p) (got q) = refl
+ranges-text (got p) other = refl
+ranges-text (got p) (refuse x) = refl
+ranges-text other s = refl
+ranges-text (refuse x) s = refl
+
+values-text : (r s : Read Moment) → _>>=_ r (λ p. _>>=_ s (λ q. _>>=_ (ranged p) (λ p. _>>=_ (ranged q) (λ q. got (text (difference (p .ms) (q .ms))))))) ≡ _>>=_ (_>>=_ r (λ p. _>>=_ s (λ q. rangedBoth p q))) differenceOf
+unfolding rangedBoth
+values-text (got p) (got q) = ranges-text (ranged p) (ranged q)
+values-text (got p) other = refl
+values-text (got p) (refuse x) = refl
+values-text other s = refl
+values-text (refuse x) s = refl
+
+pub reading-timediff : (set : Setting) (a b : Value) → reading set (timediff a b) ≡ _>>=_ (instants set a b) differenceOf
+unfolding reading instants
+reading-timediff set a b = values-text (timeValue (set .clock) (present a)) (timeValue (set .clock) (present b))
