@@ -5,8 +5,11 @@ use mathlib.Core.List.{List, [], _∷_}
 use lib.Dec.{eqb, leb}
 use lib.ListN.{length}
 use lib.Seq.{sets}
-use Rattle.rules.specs.Basics.{every, parts, Read, got, other, refuse}
-use Rattle.rules.specs.Calls.{Call, call, strftime, timediff}
+use Rattle.rules.specs.Basics.{every, parts, Read, got, other, refuse, _or_, _>>=_}
+use Rattle.rules.specs.Calls.{Call, call, strftime, timediff, Outcome}
+use Rattle.rules.specs.Functions.{answer, settle}
+use Rattle.rules.specs.declared.Refusal.{Refusal}
+use Rattle.rules.specs.declared.Setting.{Setting}
 
 abbrev pub isTab : ℕ → Bool
 isTab b = eqb b 9
@@ -35,3 +38,7 @@ modifiersIn (refuse r) = []
 -- what the lent room holds once the modifiers of a line's call are laid at its front
 abbrev pub laidOut : Read Call → List ℕ → List ℕ
 laidOut c room = sets room 0 (modifiersIn c)
+
+-- what comes of a line's call: refusal 2 where it is none
+unfoldable pub outcome : Setting → Read Call → Outcome
+outcome set r = settle (do c ← r or refuse Refusal.Shape; got (answer set c))

@@ -4,8 +4,9 @@ ghost use mathlib.Core.Path.{_≡_};
 ghost use lib.Dec.{T};
 ghost use lib.Ieee.{isNan};
 ghost use lib.ListN.{length};
-ghost use Rattle.rules.specs.Calls.{text, integer, real, refused, answered, after};
+ghost use Rattle.rules.specs.Calls.{text, integer, real, refused};
 ghost use Rattle.rules.specs.Program.{shown};
+ghost use Rattle.datetime.specs.Given.{Gives};
 ghost use Rattle.lines.specs.Shown.{Sound, shownAnswer, shownAfter};
 use rules::Answer;
 use rules::Refusal;
@@ -26,8 +27,7 @@ pub fn show(a: Answer, out: &mut [u8]) -> Answer
 }
 
 fn show_integer(n: i64, out: &mut [u8]) -> Answer
-    ensures { λ r. ⌜ r ≡ answered (text (shown (integer n))) (length (now (out .entry))) ⌝ }
-    ensures { λ r. ⌜ now (out .exit) ≡ after (text (shown (integer n))) (now (out .entry)) ⌝ }
+    ensures { λ r. ⌜ Gives (text (shown (integer n))) (now (out .entry)) (now (out .exit)) r ⌝ }
 {
     let size = digits::integer_length(n);
     if out.len() < size {
@@ -38,8 +38,7 @@ fn show_integer(n: i64, out: &mut [u8]) -> Answer
 
 fn show_real(x: f64, out: &mut [u8]) -> Answer
     requires { ⌜ T (not (isNan x)) ⌝ }
-    ensures { λ r. ⌜ r ≡ answered (text (shown (real x))) (length (now (out .entry))) ⌝ }
-    ensures { λ r. ⌜ now (out .exit) ≡ after (text (shown (real x))) (now (out .entry)) ⌝ }
+    ensures { λ r. ⌜ Gives (text (shown (real x))) (now (out .entry)) (now (out .exit)) r ⌝ }
 {
     if out.len() < 16 {
         return Answer::NoRoom(16);
@@ -48,8 +47,7 @@ fn show_real(x: f64, out: &mut [u8]) -> Answer
 }
 
 fn show_refusal(r: Refusal, out: &mut [u8]) -> Answer
-    ensures { λ q. ⌜ q ≡ answered (text (shown (refused r))) (length (now (out .entry))) ⌝ }
-    ensures { λ q. ⌜ now (out .exit) ≡ after (text (shown (refused r))) (now (out .entry)) ⌝ }
+    ensures { λ q. ⌜ Gives (text (shown (refused r))) (now (out .entry)) (now (out .exit)) q ⌝ }
 {
     match r {
         Refusal::Null => show_text(b"null", out),
@@ -62,8 +60,7 @@ fn show_refusal(r: Refusal, out: &mut [u8]) -> Answer
 }
 
 fn show_text(s: &[u8], out: &mut [u8]) -> Answer
-    ensures { λ r. ⌜ r ≡ answered (text (now (s .entry))) (length (now (out .entry))) ⌝ }
-    ensures { λ r. ⌜ now (out .exit) ≡ after (text (now (s .entry))) (now (out .entry)) ⌝ }
+    ensures { λ r. ⌜ Gives (text (now (s .entry))) (now (out .entry)) (now (out .exit)) r ⌝ }
 {
     if out.len() < s.len() {
         return Answer::NoRoom(s.len());

@@ -43,19 +43,24 @@ same-length c = search needs
 returns-3 : tie.Need-returns-3
 returns-3 c =
     let n = c .before .before .before .before .before .a3 .given .0 .0 in
-    rw (c .before .before .before .before .before .a3 .given .1) (integer-as _ _ _ (toZ-ofZ w64 n (record { sfits = c .before .before .before .before .known-told3 .given .0 .1 })) (c .before .before .show-integer .ensures))
+    let g = integer-as (toZ-ofZ w64 n (record { sfits = c .before .before .before .before .known-told3 .given .0 .1 })) (c .before .before .show-integer .ensures) in
+    rw (c .before .before .before .before .before .a3 .given .1) (g .is, g .bytes)
 
 same-length-2 : tie.Need-same-length-2
 same-length-2 c = search needs
 
 returns-4 : tie.Need-returns-4
-returns-4 c = rw (c .before .before .before .before .before .a4 .given .1) (c .before .before .show-real .ensures)
+returns-4 c =
+    let g = c .before .before .show-real .ensures in
+    rw (c .before .before .before .before .before .a4 .given .1) (g .is, g .bytes)
 
 same-length-3 : tie.Need-same-length-3
 same-length-3 c = search needs
 
 returns-5 : tie.Need-returns-5
-returns-5 c = rw (c .before .before .before .before .before .a5 .given .1) (c .before .before .show-refusal .ensures)
+returns-5 c =
+    let g = c .before .before .show-refusal .ensures in
+    rw (c .before .before .before .before .before .a5 .given .1) (g .is, g .bytes)
 
 pub show-spec : {M : Type 1} → statement M
 show-spec =

@@ -1,7 +1,9 @@
 -- `lines::answers::show_integer` meets its contract. Assumes nothing.
+use Prim.Native.Nat.{_≤_}
 use mathlib.Core.Path.{ap, _∙_}
 use native.Mathlib.Omega.{arith}
 use borrow.Author.Needs.{needs}
+use denote.Ref.{now}
 use lib.IntN.{ℤ}
 use lib.ListN.{length}
 use mir.Syntax.{w64}
@@ -9,7 +11,7 @@ use mir.ValLaws.{toZ-ofZ}
 use Rattle.rules.specs.Program.{shown}
 use Rattle.rules.specs.Writing.{integerText}
 use Rattle.digits.proofs.Buffer.{laid-as}
-use Rattle.lines.proofs.Showing.{no-room, laid}
+use Rattle.datetime.proofs.Given.{gives-text, gives-length}
 use Rattle.lines.proofs.answers.show_integer.Statement.{statement}
 use Rattle.lines.proofs.answers.show_integer.Tie as tie
 
@@ -20,7 +22,7 @@ returns : tie.Need-returns
 unfolding shown
 returns c =
     let s = c .before .before .before in
-    no-room _ _ _ (c .before .integer-length .ensures ∙ ap (λ (z : ℤ). length (integerText z)) (toZ-ofZ w64 (s .args .n) (s .fits .n))) (c .if1 .taken)
+    gives-length (c .before .integer-length .ensures ∙ ap (λ (z : ℤ). length (integerText z)) (toZ-ofZ w64 (s .args .n) (s .fits .n))) (c .if1 .taken)
 
 put-integer-requires : tie.Need-put-integer-requires
 put-integer-requires c κs = search needs
@@ -33,7 +35,8 @@ unfolding shown
 returns-2 c =
     let s = c .before .before .before .before .before .before .before in
     let e = toZ-ofZ w64 (s .args .n) (s .fits .n) in
-    laid (laid-as (ap integerText e) (c .before .before .put-integer .ensures)) (omega (arith, c .before .before .before .before .before .integer-length .ensures, ap (λ (z : ℤ). length (integerText z)) e, c .before .before .before .before .if1 .left))
+    let h : length (integerText (s .args .n)) ≤ length (now (s .args .out)) = omega (arith, c .before .before .before .before .before .integer-length .ensures, ap (λ (z : ℤ). length (integerText z)) e, c .before .before .before .before .if1 .left) in
+    gives-text h (laid-as (ap integerText e) (c .before .before .put-integer .ensures))
 
 pub show-integer-spec : {M : Type 1} → statement M
 show-integer-spec =

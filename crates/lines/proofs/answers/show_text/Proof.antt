@@ -5,7 +5,8 @@ use native.Mathlib.Omega.{arith}
 use lib.ListN.{length, drop, length-set}
 use lib.Seq.{sets}
 use borrow.Author.Needs.{needs}
-use Rattle.lines.proofs.Showing.{no-room, laid, text-on, text-end}
+use Rattle.datetime.proofs.Given.{gives-text, gives-length}
+use Rattle.lines.proofs.Showing.{text-on, text-end}
 use Rattle.lines.proofs.answers.show_text.Statement.{statement}
 use Rattle.lines.proofs.answers.show_text.Tie as tie
 
@@ -16,7 +17,7 @@ abbrev μ-loop : tie.MeasureT-loop
 μ-loop s out₀ i₀ out i = length s - i
 
 returns : tie.Need-returns Inv-loop μ-loop
-returns c = no-room _ _ _ refl (c .if1 .taken)
+returns c = gives-length refl (c .if1 .taken)
 
 loop-holds : tie.Need-loop-holds Inv-loop μ-loop
 loop-holds c = (refl, refl, omega arith)
@@ -40,7 +41,7 @@ same-length : tie.Need-same-length Inv-loop μ-loop
 same-length c = c .before .loop .inv .1
 
 returns-2 : tie.Need-returns-2 Inv-loop μ-loop
-returns-2 c = laid (record { place = omega arith; bytes = sym (c .before .loop .inv .0 ∙ text-end _ _ _ (c .loop-test .left)) }) (c .before .before .if1 .left)
+returns-2 c = gives-text (c .before .before .if1 .left) (record { place = omega arith; bytes = sym (c .before .loop .inv .0 ∙ text-end _ _ _ (c .loop-test .left)) })
 
 pub show-text-spec : {M : Type 1} → statement M
 show-text-spec =
