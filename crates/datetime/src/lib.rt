@@ -7,13 +7,14 @@
 // A time value is what is `given`; where that is Bytes, they are `value`. Modifiers lie in one buffer, each ended by a zero byte.
 ghost use mathlib.Core.Path.{_≡_};
 ghost use lib.ListN.{length};
-ghost use Rattle.rules.specs.Calls.{valueOf, call, strftime, answered, after};
+ghost use Rattle.rules.specs.Calls.{valueOf, call, strftime, timediff, answered, after};
 ghost use Rattle.rules.specs.Functions.{answer};
 ghost use Rattle.rules.specs.Functions as rule;
 ghost use Rattle.rules.specs.declared.Function.{Function};
 ghost use Rattle.moment.specs.Held.{held};
 ghost use Rattle.moment.specs.Ranges.{Full};
 ghost use Rattle.datetime.specs.Opened.{Ready};
+use calls::Pair;
 use moment::Moment;
 use moment::Step;
 use rules::Answer;
@@ -108,5 +109,23 @@ pub fn strftime(
     match calls::moment_for(set, format, given, value, modifiers) {
         Step::Next(p) => texts::formatted(p.fill(), format, out),
         Step::Refused(r) => Answer::Refused(r),
+    }
+}
+
+// How far, and which way, the second value is moved to reach the first.
+pub fn timediff(
+    set: Setting,
+    given_a: Given,
+    a: &[u8],
+    given_b: Given,
+    b: &[u8],
+    out: &mut [u8],
+) -> Answer
+    ensures { λ r. ⌜ r ≡ answered (answer set (timediff (valueOf «given_a» (now (a .entry))) (valueOf «given_b» (now (b .entry))))) (length (now (out .entry))) ⌝ }
+    ensures { λ r. ⌜ now (out .exit) ≡ after (answer set (timediff (valueOf «given_a» (now (a .entry))) (valueOf «given_b» (now (b .entry))))) (now (out .entry)) ⌝ }
+{
+    match calls::instants(set, given_a, a, given_b, b) {
+        Pair::Are(x, y) => texts::difference(x, y, out),
+        Pair::Refused(r) => Answer::Refused(r),
     }
 }

@@ -9,7 +9,7 @@ use lib.Dec.{eqb, leb}
 use lib.ListN.{length, take, drop, length-drop}
 use lib.Seq.{sets, sets-eq, length-sets, take-at}
 use borrow.Author.Tests.{leb-true}
-use Rattle.rules.specs.Basics.{every, Read, got, other}
+use Rattle.rules.specs.Basics.{every, parts, Read, got, other}
 use Rattle.rules.specs.Calls.{Call, bytes, call, strftime, timediff}
 use Rattle.rules.specs.Functions.{answer}
 use Rattle.rules.specs.Program.{buffered, generalCall, strftimeCall, timediffCall, fieldsCall, lineCall}
@@ -22,10 +22,10 @@ use Rattle.text.specs.Places.{part, Passed}
 use Rattle.digits.specs.Writers.{Laid}
 use Rattle.datetime.specs.Given.{Gives}
 use Rattle.datetime.proofs.Given.{gives-refusal}
-use Rattle.lines.specs.Fields.{inField, fieldsAfter, plain, laidOut, outcome}
+use Rattle.lines.specs.Fields.{isTab, inField, fieldsAfter, plain, laidOut, outcome}
 use Rattle.lines.specs.Names.{nameOf, callOf}
 use Rattle.lines.specs.declared.names.Name.{Name}
-use Rattle.lines.proofs.Parts.{length-buffered, field-at, after-tab}
+use Rattle.lines.proofs.Parts.{parts-split, length-buffered, field-at, after-tab}
 use Rattle.lines.proofs.Naming.{named-call}
 
 -- ---- the modifiers that were laid out
@@ -72,6 +72,9 @@ module _ (set : Setting) {old new : List ℕ} {r : Answer} {fs : List (List ℕ)
 pub timediff-gives : (set : Setting) {old new : List ℕ} {r : Answer} {fs : List (List ℕ)} (a b : List ℕ) → fs ≡ a ∷ b ∷ [] → Gives (answer set (timediff (bytes a) (bytes b))) old new r → Gives (outcome set (timediffCall fs)) old new r
 unfolding outcome
 timediff-gives set a b e g = rw e g
+
+pub timediff-more : (a b l : List ℕ) → timediffCall (a ∷ b ∷ parts isTab l) ≡ other
+timediff-more a b l = rw (parts-split l)
 
 pub timediff-lays : (fs : List (List ℕ)) (room : List ℕ) → room ≡ laidOut (timediffCall fs) room
 timediff-lays [] room = refl

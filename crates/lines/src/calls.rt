@@ -29,7 +29,7 @@ pub fn asked(set: Setting, s: &[u8], room: &mut [u8], out: &mut [u8]) -> Answer
     match names::name_of(&s[..end]) {
         Name::General(f) => general(set, f, s, end, room, out),
         Name::Strftime => strftime(set, s, end, room, out),
-        Name::Timediff => Answer::Refused(Refusal::Shape),
+        Name::Timediff => timediff(set, s, end, out),
         Name::Unknown => Answer::Refused(Refusal::Shape),
     }
 }
@@ -91,6 +91,33 @@ fn strftime(set: Setting, s: &[u8], end: usize, room: &mut [u8], out: &mut [u8])
         Given::Bytes,
         &s[from..to],
         &room[..n],
+        out,
+    )
+}
+
+// Two values. "A field after timediff's two" is one too many.
+fn timediff(set: Setting, s: &[u8], end: usize, out: &mut [u8]) -> Answer
+    ensures { λ r. ⌜ Gives (outcome set (timediffCall (fieldsAfter (drop end (now (s .entry)))))) (now (out .entry)) (now (out .exit)) r ⌝ }
+{
+    if s.len() <= end {
+        return Answer::Refused(Refusal::Shape);
+    }
+    let first = end + 1;
+    let tab = fields::field_end(s, first);
+    if s.len() <= tab {
+        return Answer::Refused(Refusal::Shape);
+    }
+    let second = tab + 1;
+    let to = fields::field_end(s, second);
+    if to < s.len() {
+        return Answer::Refused(Refusal::Shape);
+    }
+    datetime::timediff(
+        set,
+        Given::Bytes,
+        &s[first..tab],
+        Given::Bytes,
+        &s[second..to],
         out,
     )
 }

@@ -1,5 +1,4 @@
 -- `lines::answers::show_integer` meets its contract. Assumes nothing.
-use Prim.Native.Nat.{_≤_}
 use mathlib.Core.Path.{ap, _∙_}
 use native.Mathlib.Omega.{arith}
 use borrow.Author.Needs.{needs}
@@ -11,6 +10,7 @@ use mir.ValLaws.{toZ-ofZ}
 use Rattle.rules.specs.Program.{shown}
 use Rattle.rules.specs.Writing.{integerText}
 use Rattle.digits.proofs.Buffer.{laid-as}
+use Rattle.digits.specs.Writers.{Room}
 use Rattle.datetime.proofs.Given.{gives-text, gives-length}
 use Rattle.lines.proofs.answers.show_integer.Statement.{statement}
 use Rattle.lines.proofs.answers.show_integer.Tie as tie
@@ -35,8 +35,8 @@ unfolding shown
 returns-2 c =
     let s = c .before .before .before .before .before .before .before in
     let e = toZ-ofZ w64 (s .args .n) (s .fits .n) in
-    let h : length (integerText (s .args .n)) ≤ length (now (s .args .out)) = omega (arith, c .before .before .before .before .before .integer-length .ensures, ap (λ (z : ℤ). length (integerText z)) e, c .before .before .before .before .if1 .left) in
-    gives-text h (laid-as (ap integerText e) (c .before .before .put-integer .ensures))
+    let f : Room (now (s .args .out)) 0 (integerText (s .args .n)) = record { fits = omega (arith, c .before .before .before .before .before .integer-length .ensures, ap (λ (z : ℤ). length (integerText z)) e, c .before .before .before .before .if1 .left) } in
+    gives-text f (laid-as (ap integerText e) (c .before .before .put-integer .ensures))
 
 pub show-integer-spec : {M : Type 1} → statement M
 show-integer-spec =

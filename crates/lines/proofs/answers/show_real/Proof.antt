@@ -2,12 +2,11 @@
 use mathlib.Core.Path.{sym}
 use native.Mathlib.Omega.{arith}
 use borrow.Author.Needs.{needs}
-use Prim.Native.Nat.{_≤_}
 use lib.Ieee.{binary64, toBits}
-use lib.ListN.{length}
 use denote.Ref.{now}
 use Rattle.rules.specs.Program.{shown, hex}
 use Rattle.digits.proofs.Hex.{length-hex}
+use Rattle.digits.specs.Writers.{Room}
 use Rattle.datetime.proofs.Given.{gives-text, gives-length}
 use Rattle.lines.proofs.answers.show_real.Statement.{statement}
 use Rattle.lines.proofs.answers.show_real.Tie as tie
@@ -25,8 +24,9 @@ same-length c = search needs
 returns-2 : tie.Need-returns-2
 unfolding shown
 returns-2 c =
-    let h : length (hex 16 (toBits binary64 (c .before .before .before .before .before .before .args .x))) ≤ length (now (c .before .before .before .before .before .before .args .out)) = omega (arith, length-hex 16 (toBits binary64 (c .before .before .before .before .before .before .args .x)), c .before .before .before .before .if1 .left) in
-    gives-text h (c .before .before .put-hex .ensures)
+    let a = c .before .before .before .before .before .before .args in
+    let f : Room (now (a .out)) 0 (hex 16 (toBits binary64 (a .x))) = record { fits = omega (arith, length-hex 16 (toBits binary64 (a .x)), c .before .before .before .before .if1 .left) } in
+    gives-text f (c .before .before .put-hex .ensures)
 
 pub show-real-spec : {M : Type 1} → statement M
 show-real-spec = tie.close (tie.spec returns put-hex-requires same-length returns-2)

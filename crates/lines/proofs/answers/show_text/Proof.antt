@@ -5,6 +5,8 @@ use native.Mathlib.Omega.{arith}
 use lib.ListN.{length, drop, length-set}
 use lib.Seq.{sets}
 use borrow.Author.Needs.{needs}
+use denote.Ref.{now}
+use Rattle.digits.specs.Writers.{Room}
 use Rattle.datetime.proofs.Given.{gives-text, gives-length}
 use Rattle.lines.proofs.Showing.{text-on, text-end}
 use Rattle.lines.proofs.answers.show_text.Statement.{statement}
@@ -41,7 +43,10 @@ same-length : tie.Need-same-length Inv-loop μ-loop
 same-length c = c .before .loop .inv .1
 
 returns-2 : tie.Need-returns-2 Inv-loop μ-loop
-returns-2 c = gives-text (c .before .before .if1 .left) (record { place = omega arith; bytes = sym (c .before .loop .inv .0 ∙ text-end _ _ _ (c .loop-test .left)) })
+returns-2 c =
+    let a = c .before .before .before .args in
+    let f : Room (now (a .out)) 0 (now (a .s)) = record { fits = omega (arith, c .before .before .if1 .left) } in
+    gives-text f (record { place = omega arith; bytes = sym (c .before .loop .inv .0 ∙ text-end _ _ _ (c .loop-test .left)) })
 
 pub show-text-spec : {M : Type 1} → statement M
 show-text-spec =

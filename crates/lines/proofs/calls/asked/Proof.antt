@@ -5,7 +5,9 @@ use lib.Seq.{length-take-le}
 use borrow.Author.Needs.{needs}
 use borrow.Author.Tests.{not-true, not-false}
 use denote.Ref.{now}
-use Rattle.lines.proofs.Asking.{none-comes, comes-as, plain-few, line-none, line-call}
+use lib.ListN.{drop}
+use Rattle.lines.specs.Fields.{fieldsAfter}
+use Rattle.lines.proofs.Asking.{none-comes, comes-as, timediff-lays, plain-few, line-none, line-call}
 use Rattle.lines.proofs.calls.asked.Statement.{statement}
 use Rattle.lines.proofs.calls.asked.Tie as tie
 
@@ -42,6 +44,9 @@ strftime-requires c κs = omega (arith, plain-few (now (c .before .before .befor
 enum-told-2 : tie.Need-enum-told-2
 enum-told-2 c = search needs
 
+timediff-requires : tie.Need-timediff-requires
+timediff-requires c κs = search needs
+
 enum-told-3 : tie.Need-enum-told-3
 enum-told-3 c = search needs
 
@@ -67,8 +72,13 @@ returns-3 c =
     let a = c .before .before .before .before .before .before .before .before .before .before .before .before .before .before .before .before .before .args in
     comes-as (a .set) (now (a .out)) (now (a .room)) (line-call (now (a .s)) _ _ (sym (c .before .before .before .before .before .before .before .before .before .before .before .before .before .is-plain .ensures) ∙ not-false _ (c .before .before .before .before .before .before .before .before .before .before .before .before .if1 .left)) (c .before .before .before .before .before .before .before .before .before .before .before .field-end .ensures) (c .before .before .before .before .before .before .before .before .before .name-of .ensures) (c .before .before .before .before .before .before .before .enum-told .given .1)) (c .before .before .before .before .strftime .ensures)
 
+same-length-5 : tie.Need-same-length-5
+same-length-5 c = search needs
+
 returns-4 : tie.Need-returns-4
-returns-4 c = ?
+returns-4 c =
+    let a = c .before .before .before .before .before .before .before .before .before .before .before .before .before .before .args in
+    comes-as (a .set) (now (a .out)) (now (a .room)) (line-call (now (a .s)) _ _ (sym (c .before .before .before .before .before .before .before .before .before .before .is-plain .ensures) ∙ not-false _ (c .before .before .before .before .before .before .before .before .before .if1 .left)) (c .before .before .before .before .before .before .before .before .field-end .ensures) (c .before .before .before .before .before .before .name-of .ensures) (c .before .before .before .before .enum-told2 .given .1)) (c .before .before .timediff .ensures, timediff-lays (fieldsAfter (drop (c .before .before .before .before .before .before .before .before .field-end .result) (now (a .s)))) (now (a .room)))
 
 returns-5 : tie.Need-returns-5
 returns-5 c =
@@ -90,6 +100,7 @@ asked-spec =
     enum-told
     strftime-requires
     enum-told-2
+    timediff-requires
     enum-told-3
     same-length
     same-length-2
@@ -97,5 +108,6 @@ asked-spec =
     same-length-3
     same-length-4
     returns-3
+    same-length-5
     returns-4
     returns-5)
