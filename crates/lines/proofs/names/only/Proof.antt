@@ -1,0 +1,17 @@
+-- `lines::names::only` meets its contract. Assumes nothing.
+use mathlib.Core.Path.{sym, _∙_}
+use borrow.Author.Needs.{needs}
+use Rattle.lines.proofs.names.only.Statement.{statement}
+use Rattle.lines.proofs.names.only.Tie as tie
+
+same-requires : tie.Need-same-requires
+same-requires c κs = search needs
+
+returns : tie.Need-returns
+returns c = rw (sym (c .before .same .ensures) ∙ c .if1 .taken)
+
+returns-2 : tie.Need-returns-2
+returns-2 c = rw (sym (c .before .same .ensures) ∙ c .if1 .left)
+
+pub only-spec : {M : Type 1} → statement M
+only-spec = tie.close (tie.spec same-requires returns returns-2)
