@@ -5,9 +5,11 @@ pub mod Opened
 pub mod Faults
 -- the moment of a call
 pub mod Moments
+-- timediff's two instants
+pub mod Instants
 -- what is given back of an outcome: a text in the lent buffer, or a refusal
 pub mod Given
 -- from the moment to the outcome
 pub mod Answers
--- timediff's two instants
-pub mod Instants
+-- from timediff's two instants to its outcome
+pub mod Differences

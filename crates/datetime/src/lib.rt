@@ -7,21 +7,22 @@
 // A time value is what is `given`; where that is Bytes, they are `value`. Modifiers lie in one buffer, each ended by a zero byte.
 ghost use mathlib.Core.Path.{_≡_};
 ghost use lib.ListN.{length};
-ghost use Rattle.rules.specs.Calls.{valueOf, call, strftime, answered, after};
+ghost use Rattle.rules.specs.Calls.{valueOf, call, strftime, timediff, answered, after};
 ghost use Rattle.rules.specs.Functions.{answer};
 ghost use Rattle.rules.specs.Functions as rule;
 ghost use Rattle.rules.specs.declared.Function.{Function};
 ghost use Rattle.moment.specs.Held.{held};
 ghost use Rattle.moment.specs.Ranges.{Full};
 ghost use Rattle.datetime.specs.Opened.{Ready};
+use calls::Pair;
 use moment::Moment;
 use moment::Step;
 use rules::Answer;
 use rules::Given;
 use rules::Setting;
 
-mod calls;
-mod texts;
+pub mod calls;
+pub mod texts;
 
 // "With no modifier, date, time and datetime renew a day above 28 from the milliseconds."
 fn renewed(modifiers: &[u8], p: Moment) -> Moment
@@ -108,5 +109,23 @@ pub fn strftime(
     match calls::moment_for(set, format, given, value, modifiers) {
         Step::Next(p) => texts::formatted(p.fill(), format, out),
         Step::Refused(r) => Answer::Refused(r),
+    }
+}
+
+// How far, and which way, the second value is moved to reach the first.
+pub fn timediff(
+    set: Setting,
+    given_a: Given,
+    a: &[u8],
+    given_b: Given,
+    b: &[u8],
+    out: &mut [u8],
+) -> Answer
+    ensures { λ r. ⌜ r ≡ answered (answer set (timediff (valueOf «given_a» (now (a .entry))) (valueOf «given_b» (now (b .entry))))) (length (now (out .entry))) ⌝ }
+    ensures { λ r. ⌜ now (out .exit) ≡ after (answer set (timediff (valueOf «given_a» (now (a .entry))) (valueOf «given_b» (now (b .entry))))) (now (out .entry)) ⌝ }
+{
+    match calls::instants(set, given_a, a, given_b, b) {
+        Pair::Are(x, y) => texts::difference(x, y, out),
+        Pair::Refused(r) => Answer::Refused(r),
     }
 }

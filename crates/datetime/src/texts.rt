@@ -58,6 +58,19 @@ pub fn datetime(p: Moment, out: &mut [u8]) -> Answer
     Answer::Text(writing::put_time(out, after, p))
 }
 
+// timediff's text.
+pub fn difference(a: u64, b: u64, out: &mut [u8]) -> Answer
+    requires { ⌜ InRange a × InRange b ⌝ }
+    ensures { λ r. ⌜ Gives (text (rule.difference a b)) (now (out .entry)) (now (out .exit)) r ⌝ }
+{
+    let span = timediff::difference(a, b);
+    let n = timediff::span_length(span);
+    if out.len() < n {
+        return Answer::NoRoom(n);
+    }
+    Answer::Text(timediff::put_span(out, 0, span))
+}
+
 // Seconds since the Unix epoch. With subsec: an f64.
 pub fn unix(p: Moment) -> Answer
     requires { ⌜ InRange (p .ms) ⌝ }

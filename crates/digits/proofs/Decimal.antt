@@ -89,7 +89,7 @@ unfolding width
 width-one zero v h = refl
 width-one (suc k) v h = rw (lt-ltb v 10 h)
 
-width-more : (k v : ℕ) → 10 ≤ v → width (suc k) v ≡ suc (width k (v / 10))
+pub width-more : (k v : ℕ) → 10 ≤ v → width (suc k) v ≡ suc (width k (v / 10))
 unfolding width
 width-more k v h = rw (le-ltb v 10 h)
 

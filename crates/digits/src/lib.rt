@@ -49,6 +49,15 @@ pub fn put_two(buf: &mut [u8], at: usize, v: u32) -> usize
     at + 2
 }
 
+// A byte and two digits, as `-05` or `:07`.
+pub fn put_next(buf: &mut [u8], at: usize, b: u8, v: u32) -> usize
+    requires { ⌜ v < 100 ⌝ ∗ ⌜ Room (now buf) at (b ∷ text.wide 2 v) ⌝ }
+    ensures { λ r. ⌜ Laid (now (buf .entry)) at (b ∷ text.wide 2 v) (now (buf .exit)) r ⌝ }
+{
+    let digits = put_byte(buf, at, b);
+    put_two(buf, digits, v)
+}
+
 // Three digits, for a number below 1000.
 pub fn put_three(buf: &mut [u8], at: usize, v: u32) -> usize
     requires { ⌜ v < 1000 ⌝ ∗ ⌜ Room (now buf) at (text.wide 3 v) ⌝ }

@@ -69,7 +69,7 @@ days-high a b A B = omega (arith, rest-high (leb b a) a b A B (toward a b))
 
 pub tells : (a b : ℕ) (s : Span) → InRange a → InRange b → s ≡ span a b → Tells a b s
 unfolding span
-tells a b s A B e = record { text = ap spanText e ∙ text a b; is = e; months-high = rw e (months-bound (leb b a) a b A B); rest-high = rw e (rest-high (leb b a) a b A B (toward a b)) }
+tells a b s A B e = record { text = ap spanText e ∙ text a b; is = e; writable = record { months-high = rw e (months-bound (leb b a) a b A B); rest-high = rw e (rest-high (leb b a) a b A B (toward a b)) } }
 
 -- ---- what the code makes of the shift
 

@@ -1,8 +1,8 @@
--- The text of timediff: its sign, its length, and that of equal instants. Assumes nothing.
+-- The text of timediff: its length, its parts, its sign, and the text of equal instants. Assumes nothing.
 use mathlib.Core.Path.{_≡_, refl, sym, _∙_, ap}
 use mathlib.Core.Bool.{Bool, true, false}
-use mathlib.Core.List.{List, _++_}
-use Prim.Native.Nat.{ℕ, zero, suc, _+_, _-_, _*_, _/_, _%_, _^_, _≤_, _<_, max}
+use mathlib.Core.List.{List, [], _∷_, _++_, append-assoc}
+use Prim.Native.Nat.{ℕ, suc, _+_, _-_, _*_, _/_, _%_, _≤_, _<_}
 use native.Mathlib.Omega.{arith}
 use borrow.Author.Tests.{ltb-true, ltb-false, lt-ltb, le-ltb}
 use lib.Dec.{ltb, leb}
@@ -11,76 +11,55 @@ use Rattle.rules.specs.Basics.{if_then_else_, ascii}
 use Rattle.rules.specs.Calendar.{year, dayLength, civil}
 use Rattle.rules.specs.Writing.{places, width, wide, shiftText, difference}
 use Rattle.calendar.specs.Ranges.{InRange}
-use Rattle.timediff.specs.Spans.{monthAt, between, monthsOf, restOf, span, spanText}
+use Rattle.digits.proofs.Decimal.{length-places, length-wide, length-exact, wide-low, width-one, width-more}
+use Rattle.timediff.specs.Spans.{monthAt, between, monthsOf, restOf, span, spanText, Writable, monthsPart, restPart}
+use Rattle.timediff.specs.declared.Span.{Span}
 use Rattle.timediff.proofs.Shifts.{none}
-use Rattle.timediff.proofs.Numbers.{up-to, rest-high}
-use Rattle.timediff.proofs.Answer.{toward, text, months-from, months-bound, span-plus}
+use Rattle.timediff.proofs.Numbers.{up-to}
+use Rattle.timediff.proofs.Answer.{text, months-from, span-plus, tells}
 
--- ---- digits
+-- ---- the length
 
-length-places : (n v : ℕ) → length (places n v) ≡ n
-unfolding places
-length-places zero v = refl
-length-places (suc n) v = ap suc (length-places n v)
-
-width-one : (k v : ℕ) → v < 10 → width k v ≡ 1
-unfolding width
-width-one zero v h = refl
-width-one (suc k) v h = rw (lt-ltb v 10 h)
-
-width-more : (k v : ℕ) → 10 ≤ v → width (suc k) v ≡ suc (width k (v / 10))
-unfolding width
-width-more k v h = rw (le-ltb v 10 h)
-
--- n digits are enough for a number below 10 ^ n
-width-high : (k n v : ℕ) → v < 10 ^ suc n → width k v ≤ suc n
-unfolding width
-width-high zero n v h = omega arith
-width-high (suc k) zero v h = omega (arith, width-one (suc k) v h)
-width-high (suc k) (suc n) v h = go (width-high k n (v / 10) (omega arith)) (ltb v 10)
-  where
-    go : width k (v / 10) ≤ suc n → (t : Bool) → (if t then 1 else suc (width k (v / 10))) ≤ suc (suc n)
-    go i true = omega arith
-    go i false = omega arith
-
--- and a number of five digits has five
+-- a number of five digits has five
 width-five : (v : ℕ) → 10000 ≤ v → v < 100000 → width 19 v ≡ 5
 width-five v l h = rw (width-more 18 v (omega arith), width-more 17 (v / 10) (omega arith), width-more 16 (v / 10 / 10) (omega arith), width-more 15 (v / 10 / 10 / 10) (omega arith), width-one 15 (v / 10 / 10 / 10 / 10) (omega arith))
-
-length-wide : (n v : ℕ) → v < 10 ^ suc n → length (wide (suc n) v) ≡ suc n
-unfolding wide
-length-wide n v h = length-places (max (suc n) (width 19 v)) v ∙ omega (arith, width-high 19 n v h)
 
 -- a year has four digits, or five from 10000 on
 abbrev pub yearDigits : ℕ → ℕ
 yearDigits y = if ltb y 10000 then 4 else 5
 
 length-year : (y : ℕ) → y < 100000 → length (wide 4 y) ≡ yearDigits y
-unfolding wide
-length-year y h = length-places (max 4 (width 19 y)) y ∙ go (ltb y 10000) refl
+length-year y h = go (ltb y 10000) refl
   where
-    go : (t : Bool) → ltb y 10000 ≡ t → max 4 (width 19 y) ≡ (if t then 4 else 5)
-    go true e = omega (arith, width-high 19 3 y (ltb-true y 10000 e))
-    go false e = omega (arith, width-five y (ltb-false y 10000 e) h)
+    go : (t : Bool) → ltb y 10000 ≡ t → length (wide 4 y) ≡ (if t then 4 else 5)
+    go true e = length-exact 3 y (omega arith) (ltb-true y 10000 e)
+    go false e = omega (arith, length-wide 4 y, width-five y (ltb-false y 10000 e) h)
 
--- ---- the length
+length-two : (v : ℕ) → v < 100 → length (wide 2 v) ≡ 2
+length-two v h = length-exact 1 v (omega arith) h
 
 pub shift-length : (n rest : ℕ) → n / 12 < 100000 → rest < 31 * dayLength → length (shiftText n rest) ≡ yearDigits (n / 12) + 19
 unfolding shiftText
-shift-length n rest h l = simp length-append (omega (arith, length-year (n / 12) h, length-wide 1 (n % 12) (omega arith), length-wide 1 (rest / dayLength) (omega arith), length-wide 1 (rest / 3600000 % 24) (omega arith), length-wide 1 (rest / 60000 % 60) (omega arith), length-wide 1 (rest / 1000 % 60) (omega arith), length-places 3 rest))
+shift-length n rest h l = simp length-append (omega (arith, length-year (n / 12) h, length-two (n % 12) (omega arith), length-two (rest / dayLength) (omega arith), length-two (rest / 3600000 % 24) (omega arith), length-two (rest / 60000 % 60) (omega arith), length-two (rest / 1000 % 60) (omega arith), length-places 3 rest))
 
 sign-length : (t : Bool) (s : List ℕ) → length ((if t then ascii "+" else ascii "-") ++ s) ≡ suc (length s)
 sign-length true s = refl
 sign-length false s = refl
 
+pub span-bytes : (s : Span) → Writable s → length (spanText s) ≡ yearDigits (s .months / 12) + 20
+unfolding spanText
+span-bytes s w = sign-length (s .plus) (shiftText (s .months) (s .rest)) ∙ omega (arith, shift-length (s .months) (s .rest) (omega (arith, w .months-high)) (w .rest-high))
+
+-- "24 bytes, 25 with a five-digit year"
+pub span-24 : (s : Span) → Writable s → s .months < 120000 → length (spanText s) ≡ 24
+span-24 s w h = span-bytes s w ∙ rw (lt-ltb (s .months / 12) 10000 (omega arith))
+
+pub span-25 : (s : Span) → Writable s → 120000 ≤ s .months → length (spanText s) ≡ 25
+span-25 s w h = span-bytes s w ∙ rw (le-ltb (s .months / 12) 10000 (omega arith))
+
 module _ (a b : ℕ) (A : InRange a) (B : InRange b) where
-  -- "24 bytes, 25 with a five-digit year"
   pub bytes : length (difference a b) ≡ yearDigits (span a b .months / 12) + 20
-  unfolding spanText span
-  bytes =
-      let plus = leb b a in
-      let l = shift-length (monthsOf plus a b) (restOf plus a b) (omega (arith, months-bound plus a b A B)) (rest-high plus a b A B (toward a b)) in
-      ap length (sym (text a b)) ∙ sign-length plus _ ∙ omega (arith, l)
+  bytes = let t = tells a b (span a b) A B refl in ap length (sym (t .text)) ∙ span-bytes (span a b) (t .writable)
 
   pub bytes-range : (24 ≤ length (difference a b)) × (length (difference a b) ≤ 25)
   bytes-range = rw bytes (go (ltb (span a b .months / 12) 10000))
@@ -99,6 +78,20 @@ module _ (a b : ℕ) (A : InRange a) (B : InRange b) where
 
   pub bytes-24 : year 0 ≤ civil a .year → year 0 ≤ civil b .year → length (difference a b) ≡ 24
   bytes-24 y z = bytes ∙ rw (lt-ltb (span a b .months / 12) 10000 (omega (arith, years-high y z)))
+
+-- ---- the parts that are written one after another
+
+shift-parts : (n t : ℕ) → shiftText n t ≡ (wide 4 (n / 12) ++ (45 ∷ wide 2 (n % 12))) ++ restPart t
+unfolding shiftText
+shift-parts n t = let e : places 3 t ≡ wide 3 (t % 1000) = sym (wide-low 2 t (omega arith)) in rw e (simp append-assoc)
+
+pub span-parts : (s : Span) → spanText s ≡ monthsPart (s .plus) (s .months) ++ restPart (s .rest)
+unfolding spanText
+span-parts s = go (s .plus)
+  where
+    go : (plus : Bool) → (if plus then ascii "+" else ascii "-") ++ shiftText (s .months) (s .rest) ≡ monthsPart plus (s .months) ++ restPart (s .rest)
+    go true = ap (λ (l : List ℕ). 43 ∷ l) (shift-parts (s .months) (s .rest))
+    go false = ap (λ (l : List ℕ). 45 ∷ l) (shift-parts (s .months) (s .rest))
 
 -- ---- the sign is plus exactly if A is not before B
 pub sign : (a b : ℕ) → take 1 (difference a b) ≡ (if leb b a then ascii "+" else ascii "-")

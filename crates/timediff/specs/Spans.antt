@@ -1,13 +1,13 @@
 -- timediff's numbers: what rules' `forward` and `backward` write, both ways at once. A is the instant to be reached, B the one that is moved:
 -- forward where `plus` is true, backward where it is false.
-use Prim.Native.Nat.{ℕ, _+_, _-_, _*_, _≤_, _<_}
+use Prim.Native.Nat.{ℕ, _+_, _-_, _*_, _/_, _%_, _≤_, _<_}
 use mathlib.Core.Bool.{Bool, true, false}
 use mathlib.Core.Path.{_≡_}
-use mathlib.Core.List.{List, _++_}
+use mathlib.Core.List.{List, [], _∷_, _++_}
 use lib.Dec.{ltb, leb}
 use Rattle.rules.specs.Basics.{if_then_else_, ascii}
 use Rattle.rules.specs.Calendar.{dayLength, civil}
-use Rattle.rules.specs.Writing.{monthOf, inMonth, backOff, shiftText, difference}
+use Rattle.rules.specs.Writing.{wide, monthOf, inMonth, backOff, shiftText, difference}
 use Rattle.timediff.specs.declared.Span.{Span}
 use Rattle.timediff.specs.declared.Shift.{Shift}
 
@@ -61,9 +61,28 @@ span a b = let plus = leb b a in record { plus = plus; months = monthsOf plus a 
 unfoldable pub spanText : Span → List ℕ
 spanText s = (if s .plus then ascii "+" else ascii "-") ++ shiftText (s .months) (s .rest)
 
--- What `difference` gives for A and B. 176555 months are 14712 years and 11 months.
+-- A span that can be written: 176555 months are 14712 years and 11 months, so five digits suffice for the years, and two for the days.
+pub record Writable (s : Span) : Type 0 where
+  pub months-high : s .months ≤ 176555
+  pub rest-high : s .rest < 31 * dayLength
+
+-- What `difference` gives for A and B.
 pub record Tells (a b : ℕ) (s : Span) : Type 0 where
   pub text : spanText s ≡ difference a b
   pub is : s ≡ span a b
-  pub months-high : s .months ≤ 176555
-  pub rest-high : s .rest < 31 * dayLength
+  pub writable : Writable s
+
+-- ---- the parts of the text that are written one after another
+-- a sign's byte
+abbrev pub signByte : Bool → ℕ
+signByte plus = if plus then 43 else 45
+
+-- the sign, the years and the months: `+0001-02`
+abbrev pub monthsPart : Bool → ℕ → List ℕ
+monthsPart plus n = (signByte plus ∷ []) ++ (wide 4 (n / 12) ++ (45 ∷ wide 2 (n % 12)))
+
+-- the days and the time: `-03 04:05:06.789`
+abbrev pub restPart : ℕ → List ℕ
+restPart t =
+    (45 ∷ wide 2 (t / dayLength))
+    ++ ((32 ∷ wide 2 (t / 3600000 % 24)) ++ ((58 ∷ wide 2 (t / 60000 % 60)) ++ ((58 ∷ wide 2 (t / 1000 % 60)) ++ ((46 ∷ []) ++ wide 3 (t % 1000)))))

@@ -1,4 +1,5 @@
-// timediff in numbers: how far, and which way, B is moved to reach A. Whole months come first, then the milliseconds that are left.
+// timediff: how far, and which way, B is moved to reach A, in numbers and as a text. Whole months come first, then the milliseconds that
+// are left.
 //
 // A and B are instants from the millisecond 0 to the last, held as rules holds them. A calendar month is one number, year * 12 + month - 1:
 // November -4713, which holds the millisecond 0, is 423454 and December 9999 is 599999.
@@ -9,11 +10,18 @@
 //
 // A shifted B never leaves the months between B's and A's, so it lies on -4713-11-01 at the earliest. That is below the millisecond 0.
 ghost use mathlib.Core.Path.{_≡_};
-ghost use Prim.Native.Nat.{_+_, _/_, _%_, _≤_, _<_};
-ghost use Rattle.rules.specs.Calendar.{midnight};
-ghost use Rattle.rules.specs.Writing.{monthOf};
+ghost use Prim.Native.Nat.{_+_, _*_, _/_, _%_, _≤_, _<_};
+ghost use lib.ListN.{length};
+ghost use Rattle.rules.specs.Calendar.{dayLength, midnight};
+ghost use Rattle.rules.specs.Writing.{wide, monthOf};
 ghost use Rattle.calendar.specs.Ranges.{Countable, InRange};
-ghost use Rattle.timediff.specs.Spans.{moved, gap, past, between, shiftOf, Toward, Tells};
+ghost use Rattle.digits.specs.Writers.{Room, Laid};
+ghost use Rattle.timediff.specs.Spans.{moved, gap, past, between, shiftOf, Toward, Tells, spanText, Writable, signByte, monthsPart, restPart};
+use digits::put_byte;
+use digits::put_four;
+use digits::put_next;
+use digits::put_number;
+use digits::put_three;
 use rules::Ymd;
 
 // What timediff writes: the sign, the months and, in milliseconds, the rest, which is less than 31 days.
@@ -109,4 +117,63 @@ pub fn difference(a: u64, b: u64) -> Span
             rest: shift.at - a,
         }
     }
+}
+
+// ---- the text
+
+fn sign(plus: bool) -> u8
+    ensures { λ r. ⌜ r ≡ signByte plus ⌝ }
+{
+    if plus { b'+' } else { b'-' }
+}
+
+// "four or more year digits"
+fn put_years(buf: &mut [u8], at: usize, years: u32) -> usize
+    requires { ⌜ Room (now buf) at (wide 4 years) ⌝ }
+    ensures { λ r. ⌜ Laid (now (buf .entry)) at (wide 4 years) (now (buf .exit)) r ⌝ }
+{
+    if years < 10000 {
+        return put_four(buf, at, years);
+    }
+    put_number(buf, at, 4, years as u64)
+}
+
+// The sign, the years and the months: `+0001-02`.
+fn put_months(buf: &mut [u8], at: usize, plus: bool, months: u32) -> usize
+    requires { ⌜ Room (now buf) at (monthsPart plus months) ⌝ }
+    ensures { λ r. ⌜ Laid (now (buf .entry)) at (monthsPart plus months) (now (buf .exit)) r ⌝ }
+{
+    let before_years = put_byte(buf, at, sign(plus));
+    let before_months = put_years(buf, before_years, months / 12);
+    put_next(buf, before_months, b'-', months % 12)
+}
+
+// The days and the time: `-03 04:05:06.789`.
+fn put_rest(buf: &mut [u8], at: usize, rest: u32) -> usize
+    requires { ⌜ rest < 31 * dayLength ⌝ ∗ ⌜ Room (now buf) at (restPart rest) ⌝ }
+    ensures { λ r. ⌜ Laid (now (buf .entry)) at (restPart rest) (now (buf .exit)) r ⌝ }
+{
+    let before_hour = put_next(buf, at, b'-', rest / 86400000);
+    let before_minute = put_next(buf, before_hour, b' ', rest / 3600000 % 24);
+    let before_second = put_next(buf, before_minute, b':', rest / 60000 % 60);
+    let point = put_next(buf, before_second, b':', rest / 1000 % 60);
+    let thousandths = put_byte(buf, point, b'.');
+    put_three(buf, thousandths, rest % 1000)
+}
+
+// The text of a span. Its rest, less than 31 days, fits 32 bits.
+pub fn put_span(buf: &mut [u8], at: usize, s: Span) -> usize
+    requires { ⌜ Writable s ⌝ ∗ ⌜ Room (now buf) at (spanText s) ⌝ }
+    ensures { λ r. ⌜ Laid (now (buf .entry)) at (spanText s) (now (buf .exit)) r ⌝ }
+{
+    let days = put_months(buf, at, s.plus, s.months);
+    put_rest(buf, days, s.rest as u32)
+}
+
+// How many bytes `put_span` takes: "24 bytes, 25 with a five-digit year".
+pub fn span_length(s: Span) -> usize
+    requires { ⌜ Writable s ⌝ }
+    ensures { λ r. ⌜ (r ≡ length (spanText s)) × (r ≤ 25) ⌝ }
+{
+    if s.months < 120000 { 24 } else { 25 }
 }

@@ -28,6 +28,7 @@ use calendar::since_monday;
 use calendar::since_sunday;
 use calendar::thursday;
 use digits::put_byte;
+use digits::put_next;
 use digits::put_one;
 use digits::put_second;
 use digits::put_second_decimals;
@@ -42,15 +43,6 @@ use moment::Moment;
 use rules::Refusal;
 
 // ---- dates and times
-
-// A byte and two digits, as `-05` or `:07`.
-fn put_next(buf: &mut [u8], at: usize, b: u8, v: u32) -> usize
-    requires { ⌜ v < 100 ⌝ ∗ ⌜ Room (now buf) at (b ∷ text.wide 2 v) ⌝ }
-    ensures { λ r. ⌜ Laid (now (buf .entry)) at (b ∷ text.wide 2 v) (now (buf .exit)) r ⌝ }
-{
-    let digits = put_byte(buf, at, b);
-    put_two(buf, digits, v)
-}
 
 // A date. Before the year 0 it has a minus and at least k digits of the year.
 fn put_ymd(buf: &mut [u8], at: usize, k: usize, year: u32, month: u32, day: u32) -> usize

@@ -1,8 +1,8 @@
--- `writing::put_next` meets its contract. Assumes nothing.
+-- `digits::put_next` meets its contract. Assumes nothing.
 use borrow.Author.Needs.{needs}
 use Rattle.digits.proofs.Buffer.{laid-then}
-use Rattle.writing.proofs.put_next.Statement.{statement}
-use Rattle.writing.proofs.put_next.Tie as tie
+use Rattle.digits.proofs.put_next.Statement.{statement}
+use Rattle.digits.proofs.put_next.Tie as tie
 
 put-byte-requires : tie.Need-put-byte-requires
 put-byte-requires c κs = search needs
