@@ -9,11 +9,9 @@ pub struct Inputs {
     pub stamps: Vec<String>,
     /// As `stamps`, others.
     pub others: Vec<String>,
-    /// Unix milliseconds.
-    pub ms: Vec<i64>,
-    /// The same as seconds.
+    /// Unix seconds with milliseconds.
     pub seconds: Vec<f64>,
-    /// The same, without milliseconds.
+    /// Unix seconds.
     pub whole: Vec<i64>,
 }
 
@@ -31,7 +29,7 @@ pub fn inputs(count: usize) -> Inputs {
     let ms: Vec<i64> = (0..count).map(|_| r.between(MS.0, MS.1)).collect();
     let seconds = ms.iter().map(|ms| *ms as f64 / 1000.0).collect();
     let whole = ms.iter().map(|ms| ms.div_euclid(1000)).collect();
-    Inputs { texts, stamps, others, ms, seconds, whole }
+    Inputs { texts, stamps, others, seconds, whole }
 }
 
 /// Half of them in full, the others shorter or with a zone.

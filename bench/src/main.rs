@@ -34,7 +34,8 @@ use types::Value;
 const USAGE: &str = "\
 bench count               the calls that valgrind counts, see bench/run
 bench table COUNTS        the table; COUNTS is the folder of callgrind's files
-bench programs A B LINES  lines per second of two line programs, given with their words";
+bench programs A B LINES  lines per second of two line programs, given with their words
+bench repeat ROW          a row's calls of the archive over and over, for a profiler";
 
 /// Calls of each side in a repetition, each with other arguments.
 const CALLS: usize = 100_000;
@@ -52,6 +53,7 @@ fn main() -> ExitCode {
         ["count"] => count(),
         ["table", counts] => return measure(Path::new(counts)),
         ["programs", first, second, lines] => programs::run([first, second], lines),
+        ["repeat", number] => repeat(number),
         _ => {
             eprintln!("{USAGE}");
             return ExitCode::FAILURE;
@@ -100,6 +102,15 @@ fn count() {
     }
 }
 
+fn repeat(number: &str) {
+    let inputs = inputs::inputs(CALLS);
+    let rows = rows::rows(&inputs);
+    let row = rows.iter().find(|row| row.number == number).expect("a row's number, as i");
+    for _ in 0..10 * REPETITIONS {
+        measured_here(&row.here, CALLS);
+    }
+}
+
 fn measure(counts: &Path) -> ExitCode {
     let inputs = inputs::inputs(CALLS);
     let rows = rows::rows(&inputs);
@@ -124,6 +135,15 @@ fn measure(counts: &Path) -> ExitCode {
         lines.push(table::Line { row, times, counts });
     }
     table::print(&lines);
+    if let Some(alone) = rows::statement_alone(&inputs) {
+        let run = |_| nanoseconds(|| measured_sqlite(&alone, CALLS));
+        let times: Vec<f64> = (0..REPETITIONS).map(run).collect();
+        println!();
+        println!(
+            "Of SQLite's time {:.0} ns are those of a statement with no function, `SELECT ?1`.",
+            table::median(&times)
+        );
+    }
     ExitCode::SUCCESS
 }
 

@@ -27,7 +27,7 @@ const OFFSET: i64 = 0;
 const FORMAT: &str = "%Y-%m-%d %H:%M:%f";
 
 pub fn rows(inputs: &Inputs) -> Vec<Row<'_>> {
-    let Inputs { texts, stamps, others, seconds, whole, .. } = inputs;
+    let Inputs { texts, stamps, others, seconds, whole } = inputs;
     let subsec = text("subsec");
     let unix = text("unixepoch");
     let month = text("+1 month");
@@ -109,6 +109,11 @@ pub fn rows(inputs: &Inputs) -> Vec<Row<'_>> {
             sqlite: sqlite("SELECT date(?1, 'unixepoch')", |i| [Bound::Integer(whole[i])]),
         },
     ]
+}
+
+/// What of SQLite's time is the statement's and not the function's.
+pub fn statement_alone(inputs: &Inputs) -> Option<Box<dyn Fn(usize) -> bool + '_>> {
+    sqlite("SELECT ?1", |i| [Bound::Text(&inputs.texts[i])])
 }
 
 fn text(text: &str) -> ValueRef<'_> {

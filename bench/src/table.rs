@@ -76,7 +76,7 @@ pub fn print(lines: &[Line]) {
         println!("| {} | {} | {} | {sqlite} |", row.number, row.rust_call, row.here_call);
     }
     #[cfg(sqlite)]
-    println!("\nSQLite {}", crate::sqlite::version());
+    println!("\nSQLite is {}.", crate::sqlite::version());
 }
 
 pub fn median(numbers: &[f64]) -> f64 {
