@@ -21,8 +21,8 @@ use rules::Answer;
 use rules::Given;
 use rules::Setting;
 
-mod calls;
-mod texts;
+pub mod calls;
+pub mod texts;
 
 // "With no modifier, date, time and datetime renew a day above 28 from the milliseconds."
 fn renewed(modifiers: &[u8], p: Moment) -> Moment

@@ -1,0 +1,2 @@
+-- Laws of what is given and what comes back as plain numbers.
+pub mod Replies
