@@ -4,7 +4,7 @@
 // tabs between. A line of standard output has the answer: an f64 as 16 hex digits, `null` for refusal 1, or `refused N`. The milliseconds
 // to which the modifiers lead follow from it.
 //
-// Calls and answers are stored as crates/shifts/stdin and stdout. `oracle shifts` in oracle/ makes the calls, and the answers are the Rust's.
+// Calls and answers are stored as crates/shifts/stdin and stdout. `oracle shifts` in oracle/ makes the calls; the answers are the Rust's.
 ghost use mathlib.Core.Path.{_≡_};
 ghost use mathlib.Core.Bool.{false};
 ghost use Prim.Native.Nat.{_≤_};
