@@ -1,0 +1,2 @@
+-- Laws on what the code answers.
+pub mod Back

@@ -1,0 +1,2 @@
+-- What the contracts cite beside crate rules' definitions.
+pub mod Back
