@@ -1,0 +1,50 @@
+-- The answers of the lines of a block, as they stand in the output.
+use Prim.Native.Nat.{ℕ, _≤_}
+use mathlib.Core.Bool.{Bool, not}
+use mathlib.Core.Path.{_≡_}
+use mathlib.Core.List.{List, [], _∷_, _++_}
+use lib.Dec.{eqb, leb}
+use lib.ListN.{length, drop}
+use Rattle.rules.specs.Basics.{if_then_else_, ascii, parts}
+use Rattle.rules.specs.Program.{line}
+use Rattle.rules.specs.declared.Answer.{Answer}
+use Rattle.rules.specs.declared.Setting.{Setting}
+use Rattle.digits.specs.Writers.{Laid}
+use Rattle.dates.specs.declared.Place.{Place}
+
+abbrev pub isNewline : ℕ → Bool
+isNewline b = eqb b 10
+
+-- a byte of a line: any but the newline that ends it
+abbrev pub inLine : ℕ → Bool
+inLine b = not (isNewline b)
+
+-- how many bytes a text has, where it found room in 16,384
+abbrev pub textLength : Answer → ℕ
+textLength (Answer.Text n) = n
+textLength (Answer.Integer n) = 16385
+textLength (Answer.Real x) = 16385
+textLength (Answer.Refused r) = 16385
+textLength (Answer.NoRoom n) = 16385
+
+-- "its buffer [is] 16,384 bytes": a line's answer in it, and its newline
+abbrev pub lineText : Setting → List ℕ → List ℕ
+lineText set s = (if leb (length (line set s)) 16384 then line set s else ascii "refused 7") ++ ascii "\n"
+
+-- the answers of all lines but the last, which goes on in the next block
+unfoldable pub ended : Setting → List (List ℕ) → List ℕ
+ended set [] = []
+ended set (s ∷ []) = []
+ended set (s ∷ t ∷ ss) = lineText set s ++ ended set (t ∷ ss)
+
+abbrev pub endedFrom : Setting → List ℕ → ℕ → List ℕ
+endedFrom set block at = ended set (parts isNewline (drop at block))
+
+-- the lines of a block from `at` on are answered up to the place p: `done` is laid, and what is left are the answers of the lines from p on
+pub record Answers (set : Setting) (block : List ℕ) (at used : ℕ) (old new : List ℕ) (p : Place) : Type 0 where
+  pub done : List ℕ
+  pub laid : Laid old used done new (p .used)
+  pub left : endedFrom set block at ≡ done ++ endedFrom set block (p .at)
+  pub on : at ≤ p .at
+  pub inside : p .at ≤ length block
+  pub used-inside : p .used ≤ length new

@@ -1,0 +1,3 @@
+-- What the contracts cite beside crate rules' definitions.
+pub mod Answers
+pub mod Buffers
