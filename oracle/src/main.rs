@@ -7,6 +7,7 @@ mod departures;
 mod generator;
 mod limits;
 mod lines;
+mod pairs;
 mod readings;
 mod shifts;
 mod shims;
@@ -48,7 +49,9 @@ oracle stored READINGS LINES         the stored input of the program dates
 oracle values LIST                   time values: the list's, and generated ones
 oracle values < VALUES               what julianday and unixepoch give for each
 oracle shifts LIST                   calls of julianday with modifiers: the list's, and
-                                     generated ones";
+                                     generated ones
+oracle pairs list                    pairs A, B of demand 3
+oracle pairs < PAIRS                 timediff's text of each, put back, and A alone";
 
 const BUFFER: usize = 1 << 16;
 
@@ -91,6 +94,8 @@ fn main() -> ExitCode {
         ["values", list] => values::list(list, output).map(|()| true),
         ["shifts", list] => shifts::list(list, output).map(|()| true),
         ["values"] => values::answers(input, output).map(|()| true),
+        ["pairs", "list"] => pairs::list(output).map(|()| true),
+        ["pairs"] => pairs::answers(input, output).map(|()| true),
         _ => return usage(),
     };
     match good {
