@@ -8,6 +8,7 @@ mod departures;
 mod generator;
 mod limits;
 mod lines;
+mod pairs;
 mod readings;
 mod shifts;
 mod shims;
@@ -51,7 +52,9 @@ oracle values < VALUES               what julianday and unixepoch give for each
 oracle shifts LIST                   calls of julianday with modifiers: the list's, and
                                      generated ones
 oracle limits N SEED                 calls at every limit, and N generated ones
-oracle limits < CALLS                what each gives back";
+oracle limits < CALLS                what each gives back
+oracle pairs list                    pairs A, B of demand 3
+oracle pairs < PAIRS                 timediff's text of each, put back, and A alone";
 
 const BUFFER: usize = 1 << 16;
 
@@ -101,6 +104,8 @@ fn main() -> ExitCode {
             calls::list(count, seed, output).map(|()| true)
         }
         ["limits"] => calls::answers(input, output).map(|()| true),
+        ["pairs", "list"] => pairs::list(output).map(|()| true),
+        ["pairs"] => pairs::answers(input, output).map(|()| true),
         _ => return usage(),
     };
     match good {

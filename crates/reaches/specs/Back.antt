@@ -47,8 +47,8 @@ unfoldable pub outWith : Setting → (Value → List ℕ → Call) → List ℕ 
 outWith set f a b span out = outOf (λ m. answer set (f (bytes b) m)) (spanOf set a b) span out
 
 -- ---- demand 3
--- "Under any setting that refusal 4 lets through", for instants A and B, with 25 bytes for timediff's text and its zero byte: what comes back,
--- and what the answer's buffer holds, is what f gives of A alone.
+-- "Under any setting that refusal 4 lets through", for instants A and B, with 25 bytes for timediff's text and its zero byte: what comes
+-- back, and what the answer's buffer holds, is what f gives of A alone. f is datetime, or strftime in any format.
 unfoldable pub AsOfA : Setting → (Value → List ℕ → Call) → List ℕ → List ℕ → ℕ → List ℕ → List ℕ → Answer → Type 0
 AsOfA set f a b span old new r =
     (A B : Instant) → a ≡ written (A .stamp) → b ≡ written (B .stamp) → badSetting set ≡ false → 25 ≤ span →
