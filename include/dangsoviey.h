@@ -125,6 +125,18 @@ dangsoviey_reply dangsoviey_timediff(uint64_t clock, int64_t offset,
     uint32_t given_b, int64_t integer_b, double real_b, const unsigned char *b, size_t b_length,
     unsigned char *out, size_t out_length);
 
+/* ---- For loggers: whole milliseconds from 1970-01-01 UTC, exact. Their definitions stand in crates/dangsoviey/specs. */
+
+/* The moment that a call is about, an integer.
+ * the reply is replyOf (answered (milliseconds { clock, offset } (valueOf (givenOf given integer real) value) modifiers) 0) */
+dangsoviey_reply dangsoviey_milliseconds(uint64_t clock, int64_t offset,
+    uint32_t given, int64_t integer, double real, const unsigned char *value, size_t value_length,
+    const unsigned char *modifiers, size_t modifiers_length);
+
+/* YYYY-MM-DD HH:MM:SS.SSS; refusal 1 below -210866760000000 and above 253402300799999.
+ * the reply is replyOf (answered (stamp ms) out_length), and out then holds after (stamp ms) (what out held) */
+dangsoviey_reply dangsoviey_stamp(int64_t ms, unsigned char *out, size_t out_length);
+
 /* ---- The same, shorter.
  *
  *     char buf[DANGSOVIEY_ROOM];
@@ -258,6 +270,17 @@ static inline dangsoviey_reply dangsoviey_unixepoch_of(dangsoviey_setting set, d
 {
     return dangsoviey_unixepoch(set.clock, set.offset, v.given, v.integer, v.real, v.bytes, v.length,
         m.bytes, m.length);
+}
+
+static inline dangsoviey_reply dangsoviey_milliseconds_of(dangsoviey_setting set, dangsoviey_value v, dangsoviey_modifiers m)
+{
+    return dangsoviey_milliseconds(set.clock, set.offset, v.given, v.integer, v.real, v.bytes, v.length,
+        m.bytes, m.length);
+}
+
+static inline dangsoviey_reply dangsoviey_stamp_of(int64_t ms, char *out, size_t room)
+{
+    return dangsoviey_stamp(ms, (unsigned char *)out, room);
 }
 
 static inline dangsoviey_reply dangsoviey_strftime_of(dangsoviey_setting set, const char *format, dangsoviey_value v,

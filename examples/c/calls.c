@@ -1,8 +1,9 @@
-/* Random calls of the seven functions, and what must hold of every one of them:
+/* Random calls of the functions, and what must hold of every one of them:
  * - the reply is of one kind, and the fields that the kind does not use are 0;
  * - the bytes before the buffer, after it, and in it past the answer are as they were; after a refusal all are;
  * - in a buffer that is exactly full the same text comes back, and with one byte less refusal 7 with the same length;
  * - with no buffer at all, a null pointer and 0, the length needed comes back, and any other refusal is the same.
+ * - a stamp that is read back gives the milliseconds that were stamped.
  * Values, modifiers and formats lie in blocks of exactly their length, and are null where that is 0, so that valgrind sees a read past them.
  *
  * calls [COUNT [SEED]]: 100000 and 1 if not given. */
@@ -146,9 +147,18 @@ static void add_format(void)
     }
 }
 
-/* ---- a call */
+/* ---- a call. The first six lend a buffer. */
+enum { DATE, TIME, DATETIME, STRFTIME, TIMEDIFF, STAMP, JULIANDAY, UNIXEPOCH, MILLISECONDS, FUNCTIONS };
+
+static const char *const names[] = {"date", "time", "datetime", "strftime", "timediff", "stamp", "julianday", "unixepoch", "milliseconds"};
+
+static int lends(int function)
+{
+    return function <= STAMP;
+}
+
 typedef struct question {
-    int function; /* 0 date, 1 time, 2 datetime, 3 strftime, 4 timediff, 5 julianday, 6 unixepoch */
+    int function; /* by its place in `names` */
     uint64_t clock;
     int64_t offset;
     uint32_t given_a, given_b;
@@ -160,25 +170,30 @@ typedef struct question {
 static dangsoviey_reply ask(const question *q, unsigned char *out, size_t room)
 {
     switch (q->function) {
-    case 0:
+    case DATE:
         return dangsoviey_date(q->clock, q->offset, q->given_a, q->integer_a, q->real_a, q->a.at, q->a.length, q->modifiers.at, q->modifiers.length, out,
             room);
-    case 1:
+    case TIME:
         return dangsoviey_time(q->clock, q->offset, q->given_a, q->integer_a, q->real_a, q->a.at, q->a.length, q->modifiers.at, q->modifiers.length, out,
             room);
-    case 2:
+    case DATETIME:
         return dangsoviey_datetime(q->clock, q->offset, q->given_a, q->integer_a, q->real_a, q->a.at, q->a.length, q->modifiers.at, q->modifiers.length, out,
             room);
-    case 3:
+    case STRFTIME:
         return dangsoviey_strftime(q->clock, q->offset, q->format.at, q->format.length, q->given_a, q->integer_a, q->real_a, q->a.at, q->a.length,
             q->modifiers.at, q->modifiers.length, out, room);
-    case 4:
+    case TIMEDIFF:
         return dangsoviey_timediff(q->clock, q->offset, q->given_a, q->integer_a, q->real_a, q->a.at, q->a.length, q->given_b, q->integer_b, q->real_b,
             q->b.at, q->b.length, out, room);
-    case 5:
+    case STAMP:
+        return dangsoviey_stamp(q->integer_a, out, room);
+    case JULIANDAY:
         return dangsoviey_julianday(q->clock, q->offset, q->given_a, q->integer_a, q->real_a, q->a.at, q->a.length, q->modifiers.at, q->modifiers.length);
-    default:
+    case UNIXEPOCH:
         return dangsoviey_unixepoch(q->clock, q->offset, q->given_a, q->integer_a, q->real_a, q->a.at, q->a.length, q->modifiers.at, q->modifiers.length);
+    default:
+        return dangsoviey_milliseconds(q->clock, q->offset, q->given_a, q->integer_a, q->real_a, q->a.at, q->a.length, q->modifiers.at,
+            q->modifiers.length);
     }
 }
 
@@ -186,12 +201,14 @@ static question random_question(void)
 {
     static const uint32_t kinds[] = {2, 2, 2, 2, 2, 2, 3, 4, 0, 1, 5, 4294967295u};
     question q;
-    q.function = (int)below(7);
+    q.function = (int)below(FUNCTIONS);
     q.clock = one_in(30) ? next() : below(253402300800000u);
     q.offset = one_in(30) ? (int64_t)next() : (int64_t)below(172799) - 86399;
     q.given_a = kinds[below(sizeof kinds / sizeof *kinds)];
     q.given_b = kinds[below(sizeof kinds / sizeof *kinds)];
     q.integer_a = one_in(2) ? (int64_t)next() : (int64_t)below(5373486);
+    if (q.function == STAMP && !one_in(20))
+        q.integer_a = (int64_t)below(464269060800000u) - 210866760000000;
     q.integer_b = one_in(2) ? (int64_t)next() : (int64_t)below(5373486);
     q.real_a = one_in(2) ? (double)next() : (double)below(5373486) / 7;
     q.real_b = one_in(2) ? -(double)next() : (double)below(5373486) / 7;
@@ -219,7 +236,7 @@ static unsigned long asked;
 
 static void fail(const char *what, const question *q)
 {
-    printf("calls: question %lu, function %d: %s\n", asked, q->function, what);
+    printf("calls: question %lu, %s: %s\n", asked, names[q->function], what);
     exit(1);
 }
 
@@ -238,13 +255,13 @@ static void check_fields(const question *q, dangsoviey_reply r, size_t room)
         well = r.refusal >= 1 && r.refusal <= 7 && (r.refusal == 7 ? r.length > room : r.length == 0) && r.integer == 0 && real_zero;
         break;
     case DANGSOVIEY_KIND_TEXT:
-        well = r.refusal == 0 && r.length <= room && r.integer == 0 && real_zero && q->function < 5;
+        well = r.refusal == 0 && r.length <= room && r.integer == 0 && real_zero && lends(q->function);
         break;
     case DANGSOVIEY_KIND_INTEGER:
-        well = r.refusal == 0 && r.length == 0 && real_zero && q->function == 6;
+        well = r.refusal == 0 && r.length == 0 && real_zero && (q->function == UNIXEPOCH || q->function == MILLISECONDS);
         break;
     case DANGSOVIEY_KIND_REAL:
-        well = r.refusal == 0 && r.length == 0 && r.integer == 0 && q->function >= 5;
+        well = r.refusal == 0 && r.length == 0 && r.integer == 0 && (q->function == JULIANDAY || q->function == UNIXEPOCH);
         break;
     default:
         well = 0;
@@ -268,7 +285,7 @@ static dangsoviey_reply ask_within(const question *q, size_t room)
     for (size_t i = 0; i < all; i++)
         block[i] = (unsigned char)(pattern + i * 7);
     r = ask(q, block + AROUND, room);
-    check_fields(q, r, q->function < 5 ? room : 0);
+    check_fields(q, r, lends(q->function) ? room : 0);
     if (r.kind == DANGSOVIEY_KIND_TEXT)
         to += r.length;
     for (size_t i = 0; i < all; i++)
@@ -277,7 +294,7 @@ static dangsoviey_reply ask_within(const question *q, size_t room)
     return r;
 }
 
-static unsigned long counts[7][4];
+static unsigned long counts[FUNCTIONS][4];
 
 static void check(const question *q)
 {
@@ -318,6 +335,11 @@ static void check(const question *q)
         s = ask_within(q, below(r.length + 9));
         if (s.kind == 0 ? !(s.refusal == 7 && s.length == r.length) : !(same(r, s) && memcmp(text, block + AROUND, r.length) == 0))
             fail("another answer in another buffer", q);
+    }
+    if (q->function == STAMP) {
+        s = dangsoviey_milliseconds_of(dangsoviey_at(0, 0), dangsoviey_bytes(text, r.length), dangsoviey_none());
+        if (s.kind != DANGSOVIEY_KIND_INTEGER || s.integer != q->integer_a)
+            fail("read back, other milliseconds", q);
     }
     free(text);
 }
@@ -363,7 +385,6 @@ static void marked(void)
 
 int main(int count, char **words_given)
 {
-    static const char *const names[] = {"date", "time", "datetime", "strftime", "timediff", "julianday", "unixepoch"};
     unsigned long total = count > 1 ? strtoul(words_given[1], NULL, 10) : 100000;
     state = 0x9e3779b97f4a7c15u ^ (count > 2 ? strtoul(words_given[2], NULL, 10) : 1);
     marked();
@@ -372,7 +393,7 @@ int main(int count, char **words_given)
         check(&q);
         drop(&q);
     }
-    for (int f = 0; f < 7; f++)
+    for (int f = 0; f < FUNCTIONS; f++)
         printf("%s: %lu refused, %lu texts, %lu integers, %lu reals\n", names[f], counts[f][0], counts[f][1], counts[f][2], counts[f][3]);
     printf("calls: %lu questions, each asked in several buffers: as promised\n", total);
     return 0;

@@ -4,15 +4,15 @@
 #include "dangsoviey.h"
 
 typedef struct entry {
-    uint64_t clock; /* milliseconds from 1970-01-01 UTC */
+    int64_t ms; /* from 1970-01-01 UTC */
     const char *text;
 } entry;
 
 static const entry entries[] = {
-    {1709164799250u, "started"},
-    {1709164800000u, "a leap day begins"},
-    {1709251199999u, "and ends"},
-    {253402300800000u, "past the year 9999"},
+    {1709164799250, "started"},
+    {1709164800000, "a leap day begins"},
+    {1709251199999, "and ends"},
+    {253402300800000, "past the year 9999"},
 };
 
 enum { COUNT = sizeof entries / sizeof *entries, OFFSET = 3600 /* seconds east of UTC */ };
@@ -42,22 +42,21 @@ int main(void)
     char stamps[COUNT][DANGSOVIEY_ROOM];
     size_t lengths[COUNT];
     char buf[64];
-    dangsoviey_setting set = dangsoviey_at(entries[0].clock, OFFSET);
+    dangsoviey_setting set = dangsoviey_at((uint64_t)entries[0].ms, OFFSET);
 
     /* The file's name, from the day on which it was begun, in local time. */
     show("file", dangsoviey_strftime_of(set, "app-%F.log", dangsoviey_now(), DANGSOVIEY_MODIFIERS("localtime"), buf, sizeof buf), buf);
 
     /* A line for each entry: UTC, with milliseconds. A time that has no stamp is refused, and the line says so. */
     for (size_t i = 0; i < COUNT; i++) {
-        dangsoviey_setting at = dangsoviey_at(entries[i].clock, OFFSET);
-        dangsoviey_reply r = dangsoviey_datetime_of(at, dangsoviey_now(), DANGSOVIEY_MODIFIERS("subsec"), stamps[i], sizeof stamps[i]);
+        dangsoviey_reply r = dangsoviey_stamp_of(entries[i].ms, stamps[i], sizeof stamps[i]);
         lengths[i] = r.length;
         show(entries[i].text, r, stamps[i]);
     }
 
-    /* Read back: seconds since 1970, and how long the first lines are apart. */
+    /* Read back to the milliseconds that were stamped, and how long the first lines are apart. */
     for (size_t i = 0; i + 1 < COUNT; i++)
-        show("seconds", dangsoviey_unixepoch_of(set, dangsoviey_bytes(stamps[i], lengths[i]), DANGSOVIEY_MODIFIERS("subsec")), buf);
+        show("read back", dangsoviey_milliseconds_of(set, dangsoviey_bytes(stamps[i], lengths[i]), dangsoviey_none()), buf);
     show("took", dangsoviey_timediff_of(set, dangsoviey_bytes(stamps[2], lengths[2]), dangsoviey_bytes(stamps[0], lengths[0]), buf, sizeof buf), buf);
 
     /* Files from before this day may go: the first of the month that was a year ago. */

@@ -1,2 +1,4 @@
 -- Laws of what is given and what comes back as plain numbers.
 pub mod Replies
+-- whole Unix milliseconds
+pub mod Milliseconds

@@ -1,2 +1,3 @@
 -- What the contracts cite beside crate rules' definitions.
 pub mod Replies
+pub mod Milliseconds
