@@ -9,9 +9,11 @@ pub struct Inputs {
     pub stamps: Vec<String>,
     /// As `stamps`, others.
     pub others: Vec<String>,
-    /// Unix seconds with milliseconds.
+    /// Unix milliseconds.
+    pub ms: Vec<i64>,
+    /// The same as seconds.
     pub seconds: Vec<f64>,
-    /// Unix seconds.
+    /// The same, without milliseconds.
     pub whole: Vec<i64>,
 }
 
@@ -29,7 +31,7 @@ pub fn inputs(count: usize) -> Inputs {
     let ms: Vec<i64> = (0..count).map(|_| r.between(MS.0, MS.1)).collect();
     let seconds = ms.iter().map(|ms| *ms as f64 / 1000.0).collect();
     let whole = ms.iter().map(|ms| ms.div_euclid(1000)).collect();
-    Inputs { texts, stamps, others, seconds, whole }
+    Inputs { texts, stamps, others, ms, seconds, whole }
 }
 
 /// Half of them in full, the others shorter or with a zone.

@@ -167,7 +167,8 @@ fn differs(row: &Row) -> Option<String> {
         let reply = (row.here)(i, &mut out);
         let here = match reply.kind {
             raw::TEXT => String::from_utf8_lossy(&out[..reply.length]).into_owned(),
-            raw::WHOLE => reply.integer.to_string(),
+            // The Rust has seconds where the archive has milliseconds.
+            raw::WHOLE => (reply.integer as f64 / 1000.0).to_string(),
             raw::FLOAT => reply.real.to_string(),
             _ => format!("refused {}", reply.refusal),
         };

@@ -27,7 +27,7 @@ const OFFSET: i64 = 0;
 const FORMAT: &str = "%Y-%m-%d %H:%M:%f";
 
 pub fn rows(inputs: &Inputs) -> Vec<Row<'_>> {
-    let Inputs { texts, stamps, others, seconds, whole } = inputs;
+    let Inputs { texts, stamps, others, ms, seconds, whole } = inputs;
     let subsec = text("subsec");
     let unix = text("unixepoch");
     let month = text("+1 month");
@@ -37,26 +37,48 @@ pub fn rows(inputs: &Inputs) -> Vec<Row<'_>> {
             number: "i",
             what: "text to milliseconds",
             rust_call: "unixepoch(text, 'subsec')",
-            here_call: "the same",
+            here_call: "milliseconds(text)",
             sqlite_call: "julianday(text)",
             rust: Box::new(move |i| original::exec_unixepoch([text(&texts[i]), subsec])),
-            here: Box::new(|i, _| unixepoch(texts[i].as_bytes(), b"subsec\0")),
+            here: Box::new(|i, _| number(raw::dangsoviey_milliseconds, texts[i].as_bytes(), b"")),
             sqlite: sqlite("SELECT julianday(?1)", |i| [Bound::Text(&texts[i])]),
+        },
+        Row {
+            number: "i, same call",
+            what: "text to seconds with milliseconds",
+            rust_call: "unixepoch(text, 'subsec')",
+            here_call: "the same",
+            sqlite_call: "",
+            rust: Box::new(move |i| original::exec_unixepoch([text(&texts[i]), subsec])),
+            here: Box::new(|i, _| {
+                number(raw::dangsoviey_unixepoch, texts[i].as_bytes(), b"subsec\0")
+            }),
+            sqlite: None,
         },
         Row {
             number: "ii",
             what: "milliseconds to text with decimals",
             rust_call: "datetime(seconds, 'unixepoch', 'subsec')",
-            here_call: "the same",
+            here_call: "stamp(milliseconds)",
             sqlite_call: "strftime('%Y-%m-%d %H:%M:%f', seconds, 'unixepoch')",
+            rust: Box::new(move |i| original::exec_datetime_full([real(seconds[i]), unix, subsec])),
+            here: Box::new(|i, out| stamp(ms[i], out)),
+            sqlite: sqlite("SELECT strftime('%Y-%m-%d %H:%M:%f', ?1, 'unixepoch')", |i| {
+                [Bound::Real(seconds[i])]
+            }),
+        },
+        Row {
+            number: "ii, same call",
+            what: "seconds to text with decimals",
+            rust_call: "datetime(seconds, 'unixepoch', 'subsec')",
+            here_call: "the same",
+            sqlite_call: "",
             rust: Box::new(move |i| original::exec_datetime_full([real(seconds[i]), unix, subsec])),
             here: Box::new(|i, out| {
                 let modifiers = b"unixepoch\0subsec\0";
                 written(raw::dangsoviey_datetime, raw::REAL, 0, seconds[i], b"", modifiers, out)
             }),
-            sqlite: sqlite("SELECT strftime('%Y-%m-%d %H:%M:%f', ?1, 'unixepoch')", |i| {
-                [Bound::Real(seconds[i])]
-            }),
+            sqlite: None,
         },
         Row {
             number: "iii",
@@ -171,11 +193,15 @@ fn written(
     }
 }
 
+/// unixepoch or milliseconds in the archive.
+type Number =
+    unsafe extern "C" fn(u64, i64, u32, i64, f64, *const u8, usize, *const u8, usize) -> Reply;
+
 #[inline(always)]
-fn unixepoch(value: &[u8], modifiers: &[u8]) -> Reply {
+fn number(function: Number, value: &[u8], modifiers: &[u8]) -> Reply {
     // SAFETY: as above.
     unsafe {
-        raw::dangsoviey_unixepoch(
+        function(
             CLOCK,
             OFFSET,
             raw::BYTES,
@@ -187,6 +213,12 @@ fn unixepoch(value: &[u8], modifiers: &[u8]) -> Reply {
             modifiers.len(),
         )
     }
+}
+
+#[inline(always)]
+fn stamp(ms: i64, out: &mut [u8]) -> Reply {
+    // SAFETY: as above.
+    unsafe { raw::dangsoviey_stamp(ms, out.as_mut_ptr(), out.len()) }
 }
 
 #[inline(always)]

@@ -96,6 +96,24 @@ pub fn unixepoch<'a>(
     })
 }
 
+/// The moment in milliseconds since 1970-01-01 00:00:00 UTC, exact.
+pub fn milliseconds<'a>(
+    setting: Setting,
+    value: impl Into<Value<'a>>,
+    modifiers: &[impl AsRef<[u8]>],
+) -> Result<i64, Refusal> {
+    let reply = number(raw::dangsoviey_milliseconds, setting, value.into(), modifiers)?;
+    Ok(reply.integer)
+}
+
+/// YYYY-MM-DD HH:MM:SS.SSS of milliseconds since 1970-01-01 00:00:00 UTC; [`Refusal::Null`] below -210866760000000 and above
+/// 253402300799999.
+pub fn stamp(ms: i64, out: &mut [u8]) -> Result<&str, Refusal> {
+    // SAFETY: the pointer is the slice's, with its length.
+    let length = written(unsafe { raw::dangsoviey_stamp(ms, out.as_mut_ptr(), out.len()) })?;
+    Ok(ascii(&out[..length]))
+}
+
 /// The moment as the format says. After a `%` stand d e F f g G H I j J k l m M p P R s S T u U V w W Y or a second `%`.
 pub fn strftime<'a, 'o>(
     setting: Setting,
@@ -211,6 +229,11 @@ pub fn timediff_string<'a, 'b>(
     allocated(|out| timediff(setting, first, second, out).map(str::len))
 }
 
+/// [`stamp`] into a new `String`.
+pub fn stamp_string(ms: i64) -> Result<String, Refusal> {
+    allocated(|out| stamp(ms, out).map(str::len))
+}
+
 /// date, time or datetime in the archive.
 type TextFunction = unsafe extern "C" fn(
     u64,
@@ -226,7 +249,7 @@ type TextFunction = unsafe extern "C" fn(
     usize,
 ) -> Reply;
 
-/// julianday or unixepoch in the archive.
+/// julianday, unixepoch or milliseconds in the archive.
 type NumberFunction =
     unsafe extern "C" fn(u64, i64, u32, i64, f64, *const u8, usize, *const u8, usize) -> Reply;
 

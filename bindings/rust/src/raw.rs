@@ -151,4 +151,20 @@ extern "C" {
         out: *mut u8,
         out_length: usize,
     ) -> Reply;
+
+    /// The moment as whole milliseconds since 1970, an integer.
+    pub fn dangsoviey_milliseconds(
+        clock: u64,
+        offset: i64,
+        given: u32,
+        integer: i64,
+        real: f64,
+        value: *const u8,
+        value_length: usize,
+        modifiers: *const u8,
+        modifiers_length: usize,
+    ) -> Reply;
+
+    /// YYYY-MM-DD HH:MM:SS.SSS of milliseconds since 1970.
+    pub fn dangsoviey_stamp(ms: i64, out: *mut u8, out_length: usize) -> Reply;
 }

@@ -8,7 +8,7 @@ const AROUND: usize = 16;
 /// A text function with its arguments in it.
 type Call = fn(&mut [u8]) -> Result<&str, Refusal>;
 
-const CALLS: [Call; 9] = [
+const CALLS: [Call; 11] = [
     |out| date(SETTING, "2024-02-29", NONE, out),
     |out| date(SETTING, "-4713-11-24 12:00", NONE, out),
     |out| time(SETTING, "10:11:12.345", &["subsec"], out),
@@ -26,6 +26,8 @@ const CALLS: [Call; 9] = [
     },
     |out| timediff(SETTING, "2024-02-29", "1999-12-31 23:59:59.999", out),
     |out| timediff(SETTING, "9999-12-31", "-4713-12-01", out),
+    |out| stamp(1_700_000_000_123, out),
+    |out| stamp(-210866760000000, out),
 ];
 
 /// Three patterns, so that no byte is unchanged by chance.
@@ -58,7 +60,7 @@ fn every_length_of_buffer() {
 
 #[test]
 fn nothing_written_when_refused() {
-    const REFUSED: [Call; 7] = [
+    const REFUSED: [Call; 8] = [
         |out| date(SETTING, "no date", NONE, out),
         |out| time(SETTING, "now", &["+1 day", "no modifier"], out),
         |out| datetime(SETTING, "9999-12-31", &["+1 day"], out),
@@ -66,6 +68,7 @@ fn nothing_written_when_refused() {
         |out| strftime(SETTING, "%Y %J", 0, NONE, out),
         |out| strftime(SETTING, "%Y %", "now", NONE, out),
         |out| timediff(SETTING, "now", "no date", out),
+        |out| stamp(i64::MAX, out),
     ];
     for call in REFUSED {
         for pattern in patterns() {

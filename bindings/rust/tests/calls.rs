@@ -31,6 +31,25 @@ fn every_function() {
 }
 
 #[test]
+fn milliseconds_and_stamps() {
+    assert_eq!(milliseconds(SETTING, "now", NONE), Ok(1_700_000_000_123));
+    assert_eq!(milliseconds(SETTING, "1969-12-31 23:59:59.999", NONE), Ok(-1));
+    assert_eq!(milliseconds(SETTING, "2024-01-31", &["+1 month", "floor"]), Ok(1_709_164_800_000));
+    assert_eq!(milliseconds(SETTING, "now", &["+1 day\0"]), Err(Refusal::Shape));
+    assert_eq!(milliseconds(SETTING, "25:00", NONE), Err(Refusal::Null));
+    assert_eq!(stamp_string(0).unwrap(), "1970-01-01 00:00:00.000");
+    assert_eq!(stamp_string(-1).unwrap(), "1969-12-31 23:59:59.999");
+    assert_eq!(stamp_string(-210866760000000).unwrap(), "-4713-11-24 12:00:00.000");
+    assert_eq!(stamp_string(253402300799999).unwrap(), "9999-12-31 23:59:59.999");
+    for ms in [i64::MIN, -210866760000001, 253402300800000, i64::MAX] {
+        assert_eq!(stamp_string(ms), Err(Refusal::Null));
+    }
+    for ms in (-210866760000000..253402300799999).step_by(99_999_999_977) {
+        assert_eq!(milliseconds(SETTING, &stamp_string(ms).unwrap(), NONE), Ok(ms));
+    }
+}
+
+#[test]
 fn every_value() {
     let mut out = [0; 32];
     let mut of = |value, modifiers: &[&str]| {
