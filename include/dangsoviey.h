@@ -77,7 +77,7 @@ typedef struct dangsoviey_reply {
  * modifiers  each ended by a zero byte; the empty slice holds none, a lone zero byte is one empty modifier
  */
 
-/* YYYY-MM-DD.
+/* YYYY-MM-DD, with a minus before a year below 0.
  * call: call Date (valueOf (givenOf given integer real) value) modifiers */
 dangsoviey_reply dangsoviey_date(uint64_t clock, int64_t offset,
     uint32_t given, int64_t integer, double real, const unsigned char *value, size_t value_length,

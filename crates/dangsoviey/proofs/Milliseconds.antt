@@ -1,8 +1,8 @@
 -- Laws of whole Unix milliseconds. Assumes nothing.
-use Prim.Native.Nat.{ℕ, suc, _-_, _*_, _≤_, _<_}
+use Prim.Native.Nat.{ℕ, _≤_}
 use mathlib.Core.Bool.{true, false}
 use mathlib.Core.List.{List, _++_}
-use mathlib.Core.Path.{_≡_, refl, sym, ap, _∙_, subst}
+use mathlib.Core.Path.{_≡_, sym, ap, _∙_, subst}
 use native.Mathlib.Omega.{arith}
 use borrow.Author.Tests.{ltb-true, ltb-false}
 use lib.IntN.{ℤ, pos, negsuc, natAbs}
@@ -20,7 +20,6 @@ use Rattle.rules.specs.declared.Refusal.{Refusal}
 use Rattle.rules.specs.declared.Setting.{Setting}
 use Rattle.calendar.specs.Ranges.{InRange}
 use Rattle.real.specs.StepMost.{stepMost}
-use Rattle.moment.specs.Held.{held}
 use Rattle.moment.specs.Ranges.{readOf, After, Full}
 use Rattle.moment.specs.Steps.{lengthOn}
 use Rattle.moment.specs.declared.Moment as code

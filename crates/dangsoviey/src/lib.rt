@@ -1,9 +1,9 @@
 // The seven functions for C and for Rust: crate datetime's, with plain numbers for its enums, under names that a linker finds.
 //
-// Any numbers and any bytes may be handed in; nothing is kept and nothing allocated. A slice is a pointer and a length; with length 0 the
-// pointer may be null. A time value is a number that says what is given (`givenOf`): 0 nothing, 1 null, 2 the bytes of `value`, 3 `integer`,
-// 4 `real`, and any other number is null. What comes back is crate rules' answer as five numbers (`replyOf`), and the lent buffer holds what
-// `after` says.
+// Any numbers and any bytes may be handed in; nothing is kept and nothing allocated. A slice is a pointer and a length; with length 0
+// the pointer may be null. A time value is a number that says what is given (`givenOf`): 0 nothing, 1 null, 2 the bytes of `value`,
+// 3 `integer`, 4 `real`, and any other number is null. What comes back is crate rules' answer as five numbers (`replyOf`), and the lent
+// buffer holds what `after` says.
 ghost use mathlib.Core.Path.{_≡_};
 ghost use lib.ListN.{length};
 ghost use Rattle.rules.specs.Calls.{numberOf, valueOf, call, strftime, timediff, answered, after};

@@ -1,7 +1,6 @@
 -- `dangsoviey::stamps::stamp` meets its contract. Assumes nothing.
 use mathlib.Core.Bool.{true, false}
 use mathlib.Core.Path.{_≡_, sym, ap, _∙_, subst}
-use denote.Ref.{now}
 use borrow.Author.Needs.{needs}
 use lib.IntN.{ℤ, pos, negsuc}
 use lib.Signed.{ltZ}
