@@ -14,9 +14,9 @@
 //! ```
 //!
 //! Time values are texts or numbers ([`Value`]), modifiers a slice of texts ([`NONE`] where there are none). A text answer goes into a
-//! buffer that the caller lends, from its first byte on; bytes after it, and all bytes after a refusal, stay as they were. The functions whose
-//! names end in `_string` allocate instead. Apart from them nothing allocates, nothing is kept, there is no state: every function may be
-//! called from any thread. All texts are ASCII.
+//! buffer that the caller lends, from its first byte on; bytes after it, and all bytes after a refusal, stay as they were. The functions
+//! whose names end in `_string` allocate instead. Apart from them nothing allocates, nothing is kept, there is no state: every function may
+//! be called from any thread. All texts are ASCII.
 //!
 //! [`raw`] has the archive's own functions, for callers that lay out modifiers beforehand.
 
