@@ -92,8 +92,8 @@ const FEW: usize = 128;
 /// Sixteen modifiers of 255 bytes, each with its zero byte. Longer ones are refused in any case.
 const MOST: usize = 16 * 256;
 
-/// Lays the modifiers out, each ended by a zero byte, and hands them over. A zero byte inside one would make it two: refused by Shape, which
-/// is the first refusal of all.
+/// Lays the modifiers out, each ended by a zero byte, and hands them over. A zero byte inside one would make it two: it is refused by
+/// Shape, the first refusal of all.
 pub(crate) fn laid_out<M: AsRef<[u8]>, T>(
     modifiers: &[M],
     call: impl FnOnce(&[u8]) -> Result<T, Refusal>,

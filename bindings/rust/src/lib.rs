@@ -1,5 +1,5 @@
-//! SQLite's date and time functions with clock and zone as arguments: a safe API over the archive `libdangsoviey.a`, whose every function is
-//! proved to meet its contract.
+//! SQLite's date and time functions with clock and zone as arguments: a safe API over the archive `libdangsoviey.a`, whose every function
+//! is proved to meet its contract.
 //!
 //! ```
 //! use dangsoviey::{datetime, timediff_string, unixepoch, Refusal, Seconds, Setting, NONE};
@@ -13,10 +13,10 @@
 //! assert_eq!(datetime(setting, "25:00", NONE, &mut out), Err(Refusal::Null));
 //! ```
 //!
-//! Time values are texts or numbers ([`Value`]), modifiers a slice of texts ([`NONE`] where there are none). A text answer goes into a buffer
-//! that the caller lends, from its first byte on; bytes after it, and all bytes after a refusal, stay as they were. The functions whose
-//! names end in `_string` allocate instead. Apart from them nothing allocates, nothing is kept, there is no state: every function may be
-//! called from any thread. All texts are ASCII.
+//! Time values are texts or numbers ([`Value`]), modifiers a slice of texts ([`NONE`] where there are none). A text answer goes into a
+//! buffer that the caller lends, from its first byte on; bytes after it, and all bytes after a refusal, stay as they were. The functions
+//! whose names end in `_string` allocate instead. Apart from them nothing allocates, nothing is kept, there is no state: every function may
+//! be called from any thread. All texts are ASCII.
 //!
 //! [`raw`] has the archive's own functions, for callers that lay out modifiers beforehand.
 
