@@ -2,16 +2,16 @@
 use Prim.Native.Nat.{ℕ, suc, _+_, _≤_, _<_}
 use mathlib.Core.Bool.{Bool, true, false, not}
 use mathlib.Core.Path.{_≡_, refl, sym, ap, _∙_}
-use mathlib.Core.List.{List, [], _∷_, _++_, append-assoc, append-nil}
+use mathlib.Core.List.{List, [], _∷_, _++_, append-assoc}
 use native.Mathlib.Numerals.{add-one}
 use native.Mathlib.Omega.{arith}
 use lib.ListN.{length, drop, drop-of-length-le}
-use lib.Seq.{drop-cons, length-sets}
+use lib.Seq.{drop-cons}
 use Rattle.rules.specs.Basics.{if_then_else_, parts, onFirst, front, skip}
 use Rattle.rules.specs.declared.Setting.{Setting}
 use Rattle.text.specs.Places.{part, Passed}
 use Rattle.digits.specs.Writers.{Laid}
-use Rattle.digits.proofs.Buffer.{laid-then, laid-length}
+use Rattle.digits.proofs.Buffer.{laid-then}
 use Rattle.dates.specs.Answers.{isNewline, inLine, lineText, ended, endedFrom, Answers}
 use Rattle.dates.specs.declared.Place.{Place}
 

@@ -8,7 +8,7 @@ use native.Mathlib.Omega.{arith}
 use lib.Dec.{leb}
 use lib.ListN.{length, getD, set, take, drop, drop-of-length-le, length-append, length-drop, take-append-drop}
 use lib.Seq.{sets, sets-eq, drop-cons, drop-drop, drop-append-le, length-take-le}
-use borrow.Rule.Slice.PartMut.{midOf, postOf, putMid, put-same}
+use borrow.Rule.Slice.PartMut.{midOf, putMid, put-same}
 use borrow.Author.Tests.{leb-true}
 use Rattle.rules.specs.Basics.{if_then_else_}
 use Rattle.rules.specs.Calls.{text, answered, after}

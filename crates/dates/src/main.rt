@@ -1,5 +1,6 @@
-// "The program reads tab-separated lines: first clock and offset .. then function (strftime: format next), time value or values, modifiers",
-// and writes an answer a line. Crate lines answers each; here they are read and written, in blocks, in the same memory for any input.
+// "The program reads tab-separated lines: first clock and offset .., then function (strftime: format next), time value or values,
+// modifiers", and writes an answer a line. Crate lines answers each; here they are read and written, in blocks, in the same memory for
+// any input.
 //
 // A line that lies whole in a block is answered there. One that goes on in the next block is kept: its first 8,193 bytes, which tell that
 // a longer one is too long. The last line needs no newline, and a last newline begins no line.

@@ -9,7 +9,7 @@ use lib.Dec.{eqb, leb}
 use lib.ListN.{length, take, drop, length-drop}
 use lib.Seq.{sets, sets-eq, length-sets, take-at}
 use borrow.Author.Tests.{leb-true}
-use Rattle.rules.specs.Basics.{every, parts, Read, got, other}
+use Rattle.rules.specs.Basics.{every, parts, Read, other}
 use Rattle.rules.specs.Calls.{Call, bytes, call, strftime, timediff}
 use Rattle.rules.specs.Functions.{answer}
 use Rattle.rules.specs.Program.{buffered, generalCall, strftimeCall, timediffCall, fieldsCall, lineCall}

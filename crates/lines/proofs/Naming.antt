@@ -11,8 +11,7 @@ use lib.ListN.{length, getD, drop, drop-of-length-le}
 use lib.Seq.{drop-cons}
 use borrow.Author.Tests.{eq-eqb, ne-eqb, eqb-true}
 use Rattle.rules.specs.Basics.{if_then_else_, ascii, Read, got, other, refuse, _or_, _>>=_, onlyIf}
-use Rattle.rules.specs.Calls.{Call}
-use Rattle.rules.specs.Program.{same, general, generalCall, strftimeCall, timediffCall, fieldsCall}
+use Rattle.rules.specs.Program.{same, general, generalCall, strftimeCall, fieldsCall}
 use Rattle.rules.specs.declared.Function.{Function}
 use Rattle.text.proofs.Tests.{and-false, and-left, and-right}
 use Rattle.lines.specs.Names.{orUnknown, nameOf, nameD, nameT, callOf}

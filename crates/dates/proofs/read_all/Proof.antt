@@ -1,6 +1,6 @@
--- `dates::read_all` meets its contract. The loop's invariant: what is kept and what is to be written lie within their buffers, which keep their lengths. Assumes nothing.
-use mathlib.Core.Path.{_≡_, refl}
-use native.Mathlib.Omega.{arith}
+-- `dates::read_all` meets its contract. The loop's invariant: what is kept and what is to be written
+-- lie within their buffers, which keep their lengths. Assumes nothing.
+use mathlib.Core.Path.{_≡_}
 use lib.ListN.{length}
 use borrow.Author.Needs.{needs}
 use Rattle.dates.specs.Buffers.{Within}

@@ -1,4 +1,5 @@
--- `dates::take_from` meets its contract. The loop's invariant: what is kept and what is to be written lie within their buffers, which keep their lengths. Assumes nothing.
+-- `dates::take_from` meets its contract. The loop's invariant: what is kept and what is to be written
+-- lie within their buffers, which keep their lengths. Assumes nothing.
 use Prim.Native.Nat.{_-_, _≤_}
 use mathlib.Core.Path.{_≡_, refl}
 use native.Mathlib.Omega.{arith}

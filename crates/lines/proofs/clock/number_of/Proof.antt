@@ -1,4 +1,5 @@
--- `lines::clock::number_of` meets its contract. The loop's invariant: the answer is that of the digits still to come, after those passed, whose number is n. Assumes nothing.
+-- `lines::clock::number_of` meets its contract. The loop's invariant: the answer is that of the digits still
+-- to come, after those passed, whose number is n. Assumes nothing.
 use Prim.Native.Nat.{_-_, _≤_}
 use mathlib.Core.Path.{_≡_, sym, _∙_}
 use native.Mathlib.Omega.{arith}
