@@ -6,7 +6,7 @@ use crate::original;
 #[cfg(sqlite)]
 use crate::sqlite::{Bound, Statement};
 use crate::types::{TextRef, TextSubtype, Value, ValueRef};
-use dangsoviey::raw::{self, Reply};
+use dangsoviey::raw::{self, NumberFunction, Reply, TextFunction};
 
 pub struct Row<'a> {
     pub number: &'static str,
@@ -150,24 +150,9 @@ fn integer(number: i64) -> ValueRef<'static> {
     ValueRef::Numeric(Numeric::Integer(number))
 }
 
-/// date, time or datetime in the archive.
-type Writer = unsafe extern "C" fn(
-    u64,
-    i64,
-    u32,
-    i64,
-    f64,
-    *const u8,
-    usize,
-    *const u8,
-    usize,
-    *mut u8,
-    usize,
-) -> Reply;
-
 #[inline(always)]
 fn written(
-    function: Writer,
+    function: TextFunction,
     given: u32,
     integer: i64,
     real: f64,
@@ -193,12 +178,8 @@ fn written(
     }
 }
 
-/// unixepoch or milliseconds in the archive.
-type Number =
-    unsafe extern "C" fn(u64, i64, u32, i64, f64, *const u8, usize, *const u8, usize) -> Reply;
-
 #[inline(always)]
-fn number(function: Number, value: &[u8], modifiers: &[u8]) -> Reply {
+fn number(function: NumberFunction, value: &[u8], modifiers: &[u8]) -> Reply {
     // SAFETY: as above.
     unsafe {
         function(

@@ -31,7 +31,7 @@ pub use arguments::{Setting, Value, NONE};
 pub use refusal::Refusal;
 
 use arguments::laid_out;
-use raw::Reply;
+use raw::{NumberFunction, Reply, TextFunction};
 
 /// What [`unixepoch`] gives.
 #[derive(Clone, Copy, Debug, PartialEq)]
@@ -233,25 +233,6 @@ pub fn timediff_string<'a, 'b>(
 pub fn stamp_string(ms: i64) -> Result<String, Refusal> {
     allocated(|out| stamp(ms, out).map(str::len))
 }
-
-/// date, time or datetime in the archive.
-type TextFunction = unsafe extern "C" fn(
-    u64,
-    i64,
-    u32,
-    i64,
-    f64,
-    *const u8,
-    usize,
-    *const u8,
-    usize,
-    *mut u8,
-    usize,
-) -> Reply;
-
-/// julianday, unixepoch or milliseconds in the archive.
-type NumberFunction =
-    unsafe extern "C" fn(u64, i64, u32, i64, f64, *const u8, usize, *const u8, usize) -> Reply;
 
 fn text<'o>(
     function: TextFunction,

@@ -45,6 +45,25 @@ pub struct Reply {
     pub real: f64,
 }
 
+/// The shape of date, time and datetime: clock, offset, given, integer, real, then value, modifiers and `out`, each with its length.
+pub type TextFunction = unsafe extern "C" fn(
+    u64,
+    i64,
+    u32,
+    i64,
+    f64,
+    *const u8,
+    usize,
+    *const u8,
+    usize,
+    *mut u8,
+    usize,
+) -> Reply;
+
+/// The shape of julianday, unixepoch and milliseconds: the same without `out`.
+pub type NumberFunction =
+    unsafe extern "C" fn(u64, i64, u32, i64, f64, *const u8, usize, *const u8, usize) -> Reply;
+
 extern "C" {
     /// YYYY-MM-DD.
     pub fn dangsoviey_date(
