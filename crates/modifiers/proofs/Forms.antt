@@ -1,30 +1,35 @@
 -- The forms of a modifier that counts, case by case, in the order in which they are tried. Assumes nothing.
-use Prim.Native.Nat.{ℕ, suc, _+_, _≤_, _<_}
+use Prim.Native.Nat.{ℕ, suc, _+_, _*_, _≤_, _<_}
 use mathlib.Core.Bool.{Bool, true, false, not}
 use mathlib.Core.Logic.{_≢_}
-use mathlib.Core.Path.{_≡_, refl, sym, ap, _∙_}
+use mathlib.Core.Path.{_≡_, refl, sym, ap, _∙_, subst}
 use mathlib.Core.List.{List, [], _∷_}
 use native.Mathlib.Numerals.{add-one}
 use native.Mathlib.Omega.{arith}
 use lib.Ieee.{Float}
+use lib.IntN.{natAbs}
 use lib.ListN.{length, getD, drop, drop-of-length-le}
 use lib.Seq.{drop-cons}
 use borrow.Author.Tests.{ne-eqb}
 use Rattle.rules.specs.Basics.{if_then_else_, Read, got, other, refuse, _or_, _>>=_, every, front, skip, trimEnd, trim}
 use Rattle.rules.specs.Decimal.{sign, decimal}
-use Rattle.rules.specs.Floats.{below}
+use Rattle.rules.specs.Floats.{below, cut}
 use Rattle.rules.specs.Moments.{Moment}
 use Rattle.rules.specs.Modifiers as rule
-use Rattle.rules.specs.Modifiers.{provided, wideSpace, timePart, timeOf, byDate, dateStep, timeStep, unitStep, arithmetic, unitMs}
+use Rattle.rules.specs.Modifiers.{provided, wideSpace, timePart, timeOf, byDate, dateStep, timeStep, unitStep, arithmetic, unitMs, fractionMs}
 use Rattle.rules.specs.Reading.{time}
 use Rattle.rules.specs.declared.Refusal.{Refusal}
 use Rattle.rules.specs.declared.Time.{Time}
+use Rattle.real.specs.StepMost.{stepMost}
+use Rattle.real.proofs.Units.{days-ms, hours-ms, minutes-ms, seconds-ms, months-ms, years-ms, months-cut, years-cut}
 use Rattle.moment.specs.Ranges.{TimeRead}
 use Rattle.moment.specs.Steps.{lengthOn as byLength, monthsOn as byMonths, timeOn as byTime}
 use Rattle.reading.specs.Readers.{timeOf as daytimeOf, TimeHeld, yearMonthDay}
 use Rattle.reading.specs.declared.Daytime.{Daytime}
 use Rattle.reading.proofs.Steps.{then-then}
-use Rattle.modifiers.specs.Words.{unitOf, stepBy}
+use Rattle.modifiers.specs.Words.{unitOf, scaleOf, byScale, stepBy}
+use Rattle.modifiers.specs.declared.counts.Scale.{Scale}
+use Rattle.modifiers.specs.declared.words.Unit.{Unit as Named}
 use Rattle.modifiers.proofs.Dispatch.{by-unit}
 
 -- ---- a time of day as crate reading answers it
@@ -121,18 +126,43 @@ module _ (limit : Float) (k : ℕ) (days n : Float) (p : Moment) where
   unfolding rule.byMonths
   months-in e = rw e
 
--- either ends the reading; a literal stands for its number
+-- by the scale of the unit; either ends the reading
 final : (t : Bool) (p : Moment) → (provided t p or refuse Refusal.Null) ≡ provided t p
 final true p = refl
 final false p = refl
 
-pub length-by : {r : Read Moment} (l u L U n : Float) (p : Moment) → r ≡ rule.byLength L U n p → l ≡ L → u ≡ U → (r or refuse Refusal.Null) ≡ rule.byLength l u n p
-unfolding rule.byLength
-length-by l u L U n p e a b = rw (e, a, b) (final (below n L) _)
+module _ (u : Named) (n : Float) (p : Moment) where
+  by-scale : (s : Scale) → scaleOf u ≡ s → (stepBy u n p or refuse Refusal.Null) ≡ (byScale s n p or refuse Refusal.Null)
+  by-scale s e = ap (λ s. byScale s n p or refuse Refusal.Null) e
 
-pub months-by : {r : Read Moment} (l : Float) (k : ℕ) (d L D n : Float) (p : Moment) → r ≡ rule.byMonths L k D n p → l ≡ L → d ≡ D → (r or refuse Refusal.Null) ≡ rule.byMonths l k d n p
-unfolding rule.byMonths
-months-by l k d L D n p e a b = rw (e, a, b) (final (below n L) _)
+  pub length-by : (l m : Float) → scaleOf u ≡ Scale.Length l m → (stepBy u n p or refuse Refusal.Null) ≡ rule.byLength l m n p
+  unfolding rule.byLength
+  length-by l m e = by-scale _ e ∙ final (below n l) _
+
+  pub months-by : (l : Float) (k : ℕ) (d : Float) → scaleOf u ≡ Scale.Months l k d → (stepBy u n p or refuse Refusal.Null) ≡ rule.byMonths l k d n p
+  unfolding rule.byMonths
+  months-by l k d e = by-scale _ e ∙ final (below n l) _
+
+  pub none-by : scaleOf u ≡ Scale.Unknown → (stepBy u n p or refuse Refusal.Null) ≡ refuse Refusal.Null
+  none-by e = by-scale _ e
+
+-- how far n units of a scale move, below its limit
+abbrev Reach : Float → Scale → Type 0
+Reach n (Scale.Length l m) = below n l ≡ true → natAbs (unitMs m n) ≤ stepMost
+Reach n (Scale.Months l k d) = below n l ≡ true → (natAbs (cut n) * k ≤ 176545) × (natAbs (fractionMs d n) ≤ stepMost)
+Reach n Scale.Unknown = Unit {0}
+
+reach : (u : Named) (n : Float) → Reach n (scaleOf u)
+reach Named.Day n = λ h. omega (arith, days-ms n h)
+reach Named.Hour n = λ h. omega (arith, hours-ms n h)
+reach Named.Minute n = λ h. omega (arith, minutes-ms n h)
+reach Named.Second n = λ h. omega (arith, seconds-ms n h)
+reach Named.Month n = λ h. (omega (arith, months-cut n h), omega (arith, months-ms n h))
+reach Named.Year n = λ h. (omega (arith, years-cut n h), omega (arith, years-ms n h))
+reach Named.Unknown n = tt
+
+pub reaches : (u : Named) (n : Float) (s : Scale) → scaleOf u ≡ s → Reach n s
+reaches u n s e = subst (Reach n) e (reach u n)
 
 -- ---- in order
 module _ (s : List ℕ) (p : Moment) (minus : Bool) (l : List ℕ) (e : sign s ≡ (minus, l)) where

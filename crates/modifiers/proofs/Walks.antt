@@ -13,7 +13,7 @@ use Rattle.rules.specs.Moments.{Moment}
 use Rattle.rules.specs.Modifiers.{modifier, modified}
 use Rattle.rules.specs.declared.Refusal.{Refusal}
 use Rattle.text.specs.Places.{part}
-use Rattle.moment.specs.Ranges.{After}
+use Rattle.moment.specs.Ranges.{mostBefore, After}
 use Rattle.moment.proofs.Bounds.{after-more}
 use Rattle.modifiers.proofs.Entries.{Walk, Entry, walk-start}
 
@@ -36,6 +36,6 @@ module _ {offset : ℤ} {s : List ℕ} {p q : Moment} {at i : ℕ} (g : Going of
     unfolding modified
     going-stop h = g .is ∙ rw (n .split, h)
 
-  pub going-end : length s ≤ at → (modified offset 0 (modifiers s) p ≡ got q) × After 16 q
+  pub going-end : length s ≤ at → (modified offset 0 (modifiers s) p ≡ got q) × After (mostBefore + 1) q
   unfolding modified modifiers
-  going-end h = (g .is ∙ rw (drop-of-length-le s h), after-more i 16 q (omega (arith, g .walk .few)) (g .after))
+  going-end h = (g .is ∙ rw (drop-of-length-le s h), after-more i (mostBefore + 1) q (omega (arith, g .walk .few)) (g .after))

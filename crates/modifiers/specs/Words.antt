@@ -8,6 +8,7 @@ use Rattle.rules.specs.Floats.{number}
 use Rattle.rules.specs.Moments.{Moment}
 use Rattle.rules.specs.Modifiers.{counts, named, byLength, byMonths}
 use Rattle.text.specs.Places.{leads}
+use Rattle.modifiers.specs.declared.counts.Scale.{Scale}
 use Rattle.modifiers.specs.declared.words.Kind.{Kind}
 use Rattle.modifiers.specs.declared.words.Unit.{Unit}
 
@@ -68,12 +69,21 @@ unitOf s = orNone (beside unitNames s)
 abbrev pub unitM : List ℕ → Unit
 unitM s = if word (ascii "minute") s || word (ascii "minutes") s then Unit.Minute else (if word (ascii "month") s || word (ascii "months") s then Unit.Month else Unit.Unknown)
 
+-- how a unit moves
+abbrev pub scaleOf : Unit → Scale
+scaleOf Unit.Day = Scale.Length (number 5373485) (number 86400000)
+scaleOf Unit.Hour = Scale.Length (number 128970000000) (number 3600000)
+scaleOf Unit.Minute = Scale.Length (number 7737900000000) (number 60000)
+scaleOf Unit.Second = Scale.Length (number 464270000000000) (number 1000)
+scaleOf Unit.Month = Scale.Months (number 176546) 1 (number 30)
+scaleOf Unit.Year = Scale.Months (number 14713) 12 (number 365)
+scaleOf Unit.Unknown = Scale.Unknown
+
 -- the step that stands beside a unit
+abbrev pub byScale : Scale → Float → Moment → Read Moment
+byScale (Scale.Length limit unit) = byLength limit unit
+byScale (Scale.Months limit k days) = byMonths limit k days
+byScale Scale.Unknown = λ n p. other
+
 abbrev pub stepBy : Unit → Float → Moment → Read Moment
-stepBy Unit.Day = byLength (number 5373485) (number 86400000)
-stepBy Unit.Hour = byLength (number 128970000000) (number 3600000)
-stepBy Unit.Minute = byLength (number 7737900000000) (number 60000)
-stepBy Unit.Second = byLength (number 464270000000000) (number 1000)
-stepBy Unit.Month = byMonths (number 176546) 1 (number 30)
-stepBy Unit.Year = byMonths (number 14713) 12 (number 365)
-stepBy Unit.Unknown = λ n p. other
+stepBy u = byScale (scaleOf u)

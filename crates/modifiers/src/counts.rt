@@ -13,7 +13,7 @@ ghost use Rattle.moment.specs.Held.{held};
 ghost use Rattle.moment.specs.Ranges.{Movable};
 ghost use Rattle.modifiers.specs.Stepped.{Stepped};
 ghost use Rattle.modifiers.specs.Times.{clockOf, ClockHeld};
-ghost use Rattle.modifiers.specs.Words.{unitOf, stepBy};
+ghost use Rattle.modifiers.specs.Words.{unitOf, scaleOf, stepBy};
 use crate::words;
 use crate::words::Unit;
 use decimal::Number;
@@ -31,14 +31,18 @@ pub fn arithmetic(s: &[u8], p: Moment) -> Step
     let t = decimal::sign(s, 0);
     let minus = t.minus;
     let at = t.next;
-    let YearMonthDay::Is(y, m, d, end) = reading::year_month_day(s, at, 0, 11, 30) else {
-        return time_step(s, at, minus, p);
-    };
-    match clock_after(s, end) {
-        Clock::Is(ms) => Step::Next(p.by_date(minus, y, m, d, ms)),
-        Clock::Unread => Step::Refused(Refusal::Null),
-        Clock::Other => time_step(s, at, minus, p),
+    if let YearMonthDay::Is(y, m, d, end) = reading::year_month_day(s, at, 0, 11, 30) {
+        match clock_after(s, end) {
+            Clock::Is(ms) => {
+                return Step::Next(p.by_date(minus, y, m, d, ms));
+            }
+            Clock::Unread => {
+                return Step::Refused(Refusal::Null);
+            }
+            Clock::Other => {}
+        }
     }
+    time_step(s, at, minus, p)
 }
 
 // The milliseconds of the time after a date, where one is; one that does not read; or no date form.
@@ -100,19 +104,37 @@ fn unit_after(s: &[u8], at: usize) -> Unit
     words::unit_of(&s[from..end])
 }
 
+// How a unit moves, and below which magnitude: by so many milliseconds, or by so many months, of whose fraction a whole unit counts as so
+// many days.
+enum Scale {
+    Length(f64, f64),
+    Months(f64, u32, f64),
+    Unknown,
+}
+
 // "magnitude strictly below 5373485 days, 1.2897e11 hours, 7.7379e12 minutes, 4.6427e14 seconds, 176546 months, 14713 years"
+fn scale_of(unit: Unit) -> Scale
+    ensures { λ r. ⌜ r ≡ scaleOf unit ⌝ }
+{
+    match unit {
+        Unit::Day => Scale::Length(5373485.0, 86400000.0),
+        Unit::Hour => Scale::Length(128970000000.0, 3600000.0),
+        Unit::Minute => Scale::Length(7737900000000.0, 60000.0),
+        Unit::Second => Scale::Length(464270000000000.0, 1000.0),
+        Unit::Month => Scale::Months(176546.0, 1, 30.0),
+        Unit::Year => Scale::Months(14713.0, 12, 365.0),
+        Unit::Unknown => Scale::Unknown,
+    }
+}
+
 fn by_unit(unit: Unit, n: f64, p: Moment) -> Step
     requires { ⌜ Movable (held p) ⌝ }
     ensures { λ r. ⌜ Stepped p r (stepBy unit n (held p) or refuse Refusal.Null) ⌝ }
 {
-    match unit {
-        Unit::Day => by_length(5373485.0, 86400000.0, n, p),
-        Unit::Hour => by_length(128970000000.0, 3600000.0, n, p),
-        Unit::Minute => by_length(7737900000000.0, 60000.0, n, p),
-        Unit::Second => by_length(464270000000000.0, 1000.0, n, p),
-        Unit::Month => by_months(176546.0, 1, 30.0, n, p),
-        Unit::Year => by_months(14713.0, 12, 365.0, n, p),
-        Unit::Unknown => Step::Refused(Refusal::Null),
+    match scale_of(unit) {
+        Scale::Length(limit, ms) => by_length(limit, ms, n, p),
+        Scale::Months(limit, k, days) => by_months(limit, k, days, n, p),
+        Scale::Unknown => Step::Refused(Refusal::Null),
     }
 }
 

@@ -5,13 +5,13 @@
 // The buffer is tested before anything is read (buffer::fault_of), then walked once; parts of the slice are handed on.
 ghost use mathlib.Core.Path.{_≡_};
 ghost use mathlib.Core.Bool.{false};
-ghost use Prim.Native.Nat.{_≤_};
+ghost use Prim.Native.Nat.{_+_, _≤_};
 ghost use lib.IntN.{natAbs};
 ghost use lib.ListN.{length};
 ghost use Rattle.rules.specs.Calls.{modifiers, modifiersBad};
 ghost use Rattle.rules.specs.Modifiers as rule;
 ghost use Rattle.moment.specs.Held.{held};
-ghost use Rattle.moment.specs.Ranges.{Movable, After, readOf, Lands};
+ghost use Rattle.moment.specs.Ranges.{mostBefore, Movable, After, readOf, Lands};
 ghost use Rattle.modifiers.specs.Stepped.{Stepped};
 use moment::Moment;
 use moment::Step;
@@ -48,7 +48,7 @@ pub fn modifier(offset: i64, i: usize, s: &[u8], p: Moment) -> Step
 pub fn modified(offset: i64, buffer: &[u8], p: Moment) -> Step
     requires { ⌜ (natAbs offset ≤ 86399) × (modifiersBad (now buffer) ≡ false) × After 0 (held p) ⌝ }
     ensures { λ r. ⌜ readOf r ≡ rule.modified offset 0 (modifiers (now (buffer .entry))) (held p) ⌝ }
-    ensures { λ r. ⌜ Lands (λ q. After 16 q) r ⌝ }
+    ensures { λ r. ⌜ Lands (λ q. After (mostBefore + 1) q) r ⌝ }
 {
     let mut q = p;
     let mut at = 0;

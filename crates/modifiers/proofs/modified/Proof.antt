@@ -9,7 +9,7 @@ use Rattle.rules.specs.Modifiers.{modified}
 use Rattle.rules.specs.Calls.{modifiers}
 use Rattle.moment.proofs.Bounds.{after-more}
 use Rattle.moment.specs.Held.{held}
-use Rattle.moment.specs.Ranges.{readOf}
+use Rattle.moment.specs.Ranges.{mostBefore, readOf}
 use Rattle.modifiers.proofs.Walks.{Going, going-start, going-on, going-stop, going-end}
 use Rattle.modifiers.proofs.Entries.{Entry, entry}
 use Rattle.modifiers.proofs.modified.Tie as tie
@@ -44,7 +44,7 @@ part-modifier-end : tie.Need-part-modifier-end Inv-loop μ-loop
 part-modifier-end c = omega (arith, here c .inside)
 
 modifier-requires : tie.Need-modifier-requires Inv-loop μ-loop
-modifier-requires c κs = (rw (toZ-ofZ w64 _ (c .before .before .before .before .before .fits .offset)) (c .before .before .before .before .before .pre .0), here (c .before) .short, after-more _ 15 _ (here (c .before) .few) (c .before .before .before .loop .inv .after))
+modifier-requires c κs = (rw (toZ-ofZ w64 _ (c .before .before .before .before .before .fits .offset)) (c .before .before .before .before .before .pre .0), here (c .before) .short, after-more _ mostBefore _ (here (c .before) .few) (c .before .before .before .loop .inv .after))
 
 enum-known-r : tie.Need-enum-known-r Inv-loop μ-loop
 enum-known-r c = search needs

@@ -1,10 +1,13 @@
 -- `modifiers::counts::arithmetic` meets its contract. Assumes nothing.
 use Prim.Native.Nat.{_<_}
 use denote.Ref.{now}
-use mathlib.Core.Path.{_≡_, ap}
+use mathlib.Core.Logic.{⊎-elim}
+use mathlib.Core.Path.{_≡_}
 use lib.ListN.{drop}
 use borrow.Author.Needs.{needs}
-use Rattle.rules.specs.Basics.{got}
+use Rattle.rules.specs.Basics.{got, other}
+use Rattle.rules.specs.Modifiers.{dateStep}
+use Rattle.moment.specs.Held.{held}
 use Rattle.reading.proofs.Steps.{read-as}
 use Rattle.reading.specs.Readers.{yearMonthDay, ymdOf, Limits}
 use Rattle.modifiers.specs.Times.{clockOf}
@@ -21,15 +24,6 @@ year-month-day-requires c κs = search needs
 
 enum-known-y : tie.Need-enum-known-y
 enum-known-y c = search needs
-
-enum-told : tie.Need-enum-told
-enum-told c = search needs
-
-time-step-requires : tie.Need-time-step-requires
-time-step-requires c κs = search needs
-
-returns : tie.Need-returns
-returns c = stepped-as _ (not-dated _ _ _ _ (c .before .before .before .before .sign .ensures .0) (no-date _ _ _ (read-as (ymdOf (now (c .before .before .before .before .before .before .args .s))) (c .before .before .before .year-month-day .ensures .0) (c .before .enum-told .given .1)))) (c .time-step .ensures)
 
 -- the date that is read, and its limits
 date : (c : tie.After-known-told) →
@@ -53,23 +47,34 @@ few c = rw (c .before .ms .given .1) at (c .before .before .before .clock-after 
 by-date-requires : tie.Need-by-date-requires
 by-date-requires c κs = let l = limits (c .before .before .before .before) in (c .before .before .before .before .before .before .before .before .before .before .pre .1, l .year, l .month-high, l .day-high, few c)
 
+returns : tie.Need-returns
+returns c = stepped _ (dated _ _ _ _ (c .before .before .before .before .before .before .before .before .before .sign .ensures .0) _ (date-is _ _ _ _ _ _ _ (date (c .before .before .before .before .before)) _ (read-as clockOf (c .before .before .before .before .clock-after .ensures .0) (c .before .before .ms .given .1)))) (c .by-date .ensures)
+
+enum-told : tie.Need-enum-told
+enum-told c = search needs
+
+returns-2 : tie.Need-returns-2
+returns-2 c = refused _ _ _ (date-stops _ _ _ _ (c .before .before .before .before .before .before .before .sign .ensures .0) _ (date-refused _ _ _ _ _ _ _ (date (c .before .before .before)) _ (read-as clockOf (c .before .before .clock-after .ensures .0) (c .enum-told .given .1))))
+
 enum-told-2 : tie.Need-enum-told-2
 enum-told-2 c = search needs
 
 enum-told-3 : tie.Need-enum-told-3
 enum-told-3 c = search needs
 
-time-step-requires-2 : tie.Need-time-step-requires-2
-time-step-requires-2 c κs = search needs
+time-step-requires : tie.Need-time-step-requires
+time-step-requires c κs = search needs
 
-returns-2 : tie.Need-returns-2
-returns-2 c = stepped _ (dated _ _ _ _ (c .before .before .before .before .before .before .before .before .before .sign .ensures .0) _ (date-is _ _ _ _ _ _ _ (date (c .before .before .before .before .before)) _ (read-as clockOf (c .before .before .before .before .clock-after .ensures .0) (c .before .before .ms .given .1)))) (c .by-date .ensures)
+-- no date, or one that no time follows
+undated : (c : tie.At-match-came) → let a = c .before .before .before .before .args in dateStep (c .before .before .sign .result .minus) (drop (c .before .before .sign .result .next) (now (a .s))) (held (a .p)) ≡ other
+undated c =
+    ⊎-elim
+    (λ w. date-other _ _ _ _ _ _ _ (date (record { before = record { before = record { before = c .before; match = w .0 }; y = w .1 }; known-told = w .2 })) (read-as clockOf (w .3 .ensures .0) (w .5 .given .1)))
+    (λ w. no-date _ _ _ (read-as (ymdOf (now (c .before .before .before .before .args .s))) (c .before .year-month-day .ensures .0) (w .1 .given .1)))
+    (c .match .came)
 
 returns-3 : tie.Need-returns-3
-returns-3 c = refused _ _ _ (date-stops _ _ _ _ (c .before .before .before .before .before .before .before .sign .ensures .0) _ (date-refused _ _ _ _ _ _ _ (date (c .before .before .before)) _ (read-as clockOf (c .before .before .clock-after .ensures .0) (c .enum-told2 .given .1))))
-
-returns-4 : tie.Need-returns-4
-returns-4 c = stepped-as _ (not-dated _ _ _ _ (c .before .before .before .before .before .before .before .before .sign .ensures .0) (date-other _ _ _ _ _ _ _ (date (c .before .before .before .before)) (read-as clockOf (c .before .before .before .clock-after .ensures .0) (c .before .enum-told3 .given .1)))) (c .time-step2 .ensures)
+returns-3 c = stepped-as _ (not-dated _ _ _ _ (c .before .before .before .sign .ensures .0) (undated (c .before))) (c .time-step .ensures)
 
 pub arithmetic-spec : {M : Type 1} → statement M
 arithmetic-spec =
@@ -78,15 +83,13 @@ arithmetic-spec =
     sign-requires
     year-month-day-requires
     enum-known-y
-    enum-told
-    time-step-requires
-    returns
     clock-after-requires
     enum-known-ms
     by-date-requires
+    returns
+    enum-told
+    returns-2
     enum-told-2
     enum-told-3
-    time-step-requires-2
-    returns-2
-    returns-3
-    returns-4)
+    time-step-requires
+    returns-3)
