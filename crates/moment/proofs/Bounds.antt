@@ -14,7 +14,7 @@ use Rattle.rules.specs.Floats.{number}
 use Rattle.rules.specs.Functions.{renewed}
 use Rattle.rules.specs.Moments.{Moment, blank, failure, noZone, counted, clear, setDate, setDated, setTime, setTimed, setZone, setRaw, setSubsec, setUtc, setLocal, setCounted, setOver, moved, timeMs, withTime, sumOf, countMs, fillDate, onTime, fillTime, fill, pastEnd, shift}
 use Rattle.rules.specs.Modifiers.{signed, nearestMs, atMs}
-use Rattle.rules.specs.Reading.{timed, now, isJulian, rawNumber}
+use Rattle.rules.specs.Reading.{timed, settled, now, isJulian, rawNumber}
 use Rattle.rules.specs.declared.Time.{Time}
 use Rattle.calendar.specs.Ranges.{MonthDay, Countable, InRange}
 use Rattle.calendar.proofs.Counting.{countable}
@@ -159,6 +159,9 @@ pub count-kept : (p : Moment) → Kept p (countMs p)
 unfolding countMs
 count-kept p = either (λ (q : Moment). Kept p q) (p .counted) p _ (kept-same p) (kept-new p _ (fresh p))
 
+pub settled-kept : (p : Moment) → Kept p (settled p)
+settled-kept p = either (λ (q : Moment). Kept p q) (eqb (p .zone) noZone) p (countMs p) (kept-same p) (count-kept p)
+
 -- ---- fields from milliseconds
 civil-countable : (t : ℕ) → inRange t ≡ true → Countable (civil t .year) (civil t .month) (civil t .day)
 civil-countable t h = countable _ _ _ _ (date-of t (leb-true t last (and-right (leb (instant 0) t) _ h)))
@@ -208,7 +211,7 @@ at-kept p r h = kept p (atMs p r) (λ s. clear-kept p .sane s) (λ _. no-date) (
 abbrev pub atStart : Moment → Moment
 atStart p = setOver (setZone (setCounted (setRaw (setTimed (setTime p 0 0 (number 0)) true) false) false) noZone) 0
 
-no-seconds : inMinute (number 0) ≡ true
+pub no-seconds : inMinute (number 0) ≡ true
 unfolding ofInt round le
 no-seconds = refl
 

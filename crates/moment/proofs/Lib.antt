@@ -11,3 +11,5 @@ pub mod Ways
 pub mod Modifiers
 -- one step after another
 pub mod Chains
+-- the milliseconds of the fields that are meant
+pub mod Sums

@@ -4,17 +4,19 @@ use mathlib.Core.List.{List, [], _∷_}
 use mathlib.Core.Path.{_≡_, refl, sym, ap, _∙_}
 use Prim.Native.Nat.{ℕ, _+_, _-_, _*_, _/_, _%_, _≤_, _<_}
 use native.Mathlib.Nat.{mul-one}
-use borrow.Author.Tests.{le-leb, lt-leb, lt-ltb, le-ltb}
-use lib.Dec.{ltb}
+use borrow.Author.Tests.{leb-true, not-true, le-leb, lt-leb, lt-ltb, le-ltb}
+use lib.Dec.{leb, ltb}
 use lib.IntN.{ℤ, pos, negℤ, _*ℤ_}
 use lib.Ieee.{Float}
 use Rattle.rules.specs.Basics.{if_then_else_, got, refuse, move}
-use Rattle.rules.specs.Calendar.{year, inRange, dayLength}
+use Rattle.rules.specs.Calendar.{year, instant, last, inRange, dayLength}
 use Rattle.rules.specs.Floats.{below}
 use Rattle.rules.specs.Functions.{ranged, renewed}
 use Rattle.rules.specs.Moments.{Moment, clear, counted, moved, setMs, setDate, setCounted, setDated, setOver, setRaw, setUtc, setLocal, countMs, fill, shift}
 use Rattle.rules.specs.Modifiers.{signed, atMs, fromEpoch, isAuto, auto, julian, isUnix, unix, floor, localtime, utc, daysOn, toWeekday, provided, unitMs, byLength, byMonths}
 use Rattle.rules.specs.declared.Refusal.{Refusal}
+use Rattle.real.proofs.Tests.{and-left, and-right}
+use Rattle.moment.specs.Ranges.{Ranged}
 use Rattle.moment.specs.Steps.{lengthOn, monthsOn}
 use Rattle.moment.proofs.Branches.{never, branch-false}
 use Rattle.moment.proofs.Steps.{count-cases}
@@ -129,17 +131,37 @@ shift-times p z k = ap (λ (n : ℕ). setDate p (n / 12) (n % 12 + 1) (p .day)) 
 pub counted-or-failed : (p : Moment) → (countMs p) .failed ≡ false → (countMs p) .counted ≡ true
 counted-or-failed p = count-cases (λ (q : Moment). q .failed ≡ false → q .counted ≡ true) p (λ h _. h) (λ h. never h) (λ _ _. refl) (λ _ _. refl)
 
-pub range-failed : (p : Moment) → (countMs p) .failed ≡ true → ranged p ≡ refuse Refusal.Null
-unfolding ranged
-range-failed p h = rw h
+-- no sum failed, and the milliseconds are in range
+abbrev pub passes : Moment → Bool
+passes q = not (q .failed) && inRange (q .ms)
 
-pub range-out : (p : Moment) → (countMs p) .failed ≡ false → inRange ((countMs p) .ms) ≡ false → ranged p ≡ refuse Refusal.Null
+pub passes-failed : (q : Moment) → q .failed ≡ true → false ≡ passes q
+passes-failed q h = rw h
+
+pub passes-range : (q : Moment) (b : Bool) → q .failed ≡ false → inRange (q .ms) ≡ b → b ≡ passes q
+passes-range q b h k = rw (h, k)
+
+pub range-out : (p : Moment) → passes (countMs p) ≡ false → ranged p ≡ refuse Refusal.Null
 unfolding ranged
-range-out p h k = rw (h, k)
+range-out p h = rw h
 
 pub range-in : (p : Moment) → (countMs p) .failed ≡ false → inRange ((countMs p) .ms) ≡ true → ranged p ≡ got (countMs p)
 unfolding ranged
 range-in p h k = rw (h, k)
+
+passed : (q : Moment) → passes q ≡ true → (q .failed ≡ false) × (inRange (q .ms) ≡ true)
+passed q h = (not-true (q .failed) (and-left (not (q .failed)) _ h), and-right (not (q .failed)) _ h)
+
+pub range-passed : (p : Moment) → passes (countMs p) ≡ true → ranged p ≡ got (countMs p)
+range-passed p h = let a = passed (countMs p) h in range-in p (a .0) (a .1)
+
+pub range-lands : (p q : Moment) → q ≡ countMs p → passes q ≡ true → Ranged q
+range-lands p q e h =
+    let a = passed q h in
+    record {
+      ranged = record { from = leb-true (instant 0) (q .ms) (and-left _ (leb (q .ms) last) (a .1)); to = leb-true (q .ms) last (and-right (leb (instant 0) (q .ms)) _ (a .1)) };
+      stands = ap (λ (x : Moment). x .counted) e ∙ counted-or-failed p (ap (λ (x : Moment). x .failed) (sym e) ∙ a .0);
+    }
 
 -- ---- "renew a day above 28"
 pub renew-not : (p : Moment) → p .day ≤ 28 → fill p ≡ renewed [] p

@@ -1,9 +1,9 @@
 -- What each step of the rules gives, case by case. Assumes nothing.
 use mathlib.Core.Bool.{Bool, true, false, not}
-use mathlib.Core.Path.{_≡_}
-use Prim.Native.Nat.{ℕ, _+_, _-_, _*_, _≤_, _<_}
+use mathlib.Core.Path.{_≡_, sym, ap, _∙_}
+use Prim.Native.Nat.{ℕ, _+_, _≤_, _<_}
 use native.Mathlib.Omega.{arith}
-use borrow.Author.Tests.{eq-eqb, ne-eqb, le-leb, lt-leb, leb-true}
+use borrow.Author.Tests.{eq-eqb, le-leb, lt-leb, leb-true}
 use lib.Dec.{eqb, leb}
 use Rattle.rules.specs.Basics.{if_then_else_}
 use lib.Ieee.{Float}
@@ -14,20 +14,12 @@ use Rattle.moment.proofs.Branches.{either, by-test}
 use Rattle.real.proofs.Tests.{and-left, and-right}
 use Rattle.rules.specs.Reading.{timed, isJulian, julianMs, rawNumber}
 use Rattle.rules.specs.declared.Time.{Time}
-use Rattle.rules.specs.Moments.{Moment, blank, failure, noZone, counted, clear, setMs, setDate, setDated, setTime, setTimed, setZone, setRaw, setUtc, timeMs, withTime, sumOf, countMs, onDate, fillDate, onTime, fillTime}
+use Rattle.rules.specs.Moments.{Moment, blank, failure, noZone, counted, clear, setMs, setDate, setDated, setTime, setTimed, setZone, setRaw, setUtc, timeMs, withTime, sumOf, countMs, onDate, fillDate, onTime, fillTime, fill}
 
 -- ---- withTime
-pub untimed : (p : Moment) → p .timed ≡ false → withTime p ≡ p
-unfolding withTime
-untimed p h = rw h
-
 pub zoneless : (p : Moment) → p .timed ≡ true → p .zone ≡ noZone → withTime p ≡ setMs p (p .ms + timeMs (p .hour) (p .minute) (p .second))
 unfolding withTime
 zoneless p h z = rw (h, eq-eqb (p .zone) noZone z)
-
-pub zoned : (p : Moment) → p .timed ≡ true → (p .zone ≡ noZone → ⊥) → withTime p ≡ setUtc (clear (setMs p (p .ms + timeMs (p .hour) (p .minute) (p .second) + noZone * 60000 - p .zone * 60000)))
-unfolding withTime
-zoned p h z = rw (h, ne-eqb (p .zone) noZone z)
 
 -- ---- sumOf
 pub too-early : (y : ℕ) (raw : Bool) → y < minusYear 4713 → false ≡ sumTakes y raw
@@ -59,10 +51,6 @@ pub count-dated : (p : Moment) → p .counted ≡ false → p .dated ≡ true �
 unfolding countMs
 count-dated p h k = rw (h, k)
 
-pub count-undated : (p : Moment) → p .counted ≡ false → p .dated ≡ false → countMs p ≡ sumOf p (year 2000) 1 1
-unfolding countMs
-count-undated p h k = rw (h, k)
-
 -- what comes of it: the record as it stood; the error record; or milliseconds that stand, and the fields cleared where a zone was taken off
 pub count-cases : (P : Moment → Type 0) (p : Moment) → (p .counted ≡ true → P p) → P failure → ((t : ℕ) → P (counted p t)) → ((t : ℕ) → P (setUtc (clear (counted p t)))) → P (countMs p)
 unfolding countMs sumOf withTime
@@ -87,6 +75,9 @@ in-range t a b = rw (le-leb (instant 0) t a) (le-leb t last b)
 
 pub before-range : (t : ℕ) → t < instant 0 → inRange t ≡ false
 before-range t h = rw (lt-leb (instant 0) t h)
+
+pub from-range : (t : ℕ) → instant 0 ≤ t → inRange t ≡ leb t last
+from-range t h = rw (le-leb (instant 0) t h)
 
 pub after-range : (t : ℕ) → last < t → inRange t ≡ false
 after-range t h = rw (le-leb (instant 0) t (omega arith), lt-leb t last h)
@@ -117,6 +108,11 @@ time-filled p h = rw h
 pub time-cases : (P : Moment → Type 0) (p : Moment) → (p .timed ≡ true → P p) → P (onTime (countMs p) (timeOfDay ((countMs p) .ms))) → P (fillTime p)
 unfolding fillTime
 time-cases P p stands fills = by-test P (p .timed) p (onTime (countMs p) (timeOfDay ((countMs p) .ms))) stands (λ _. fills)
+
+-- ---- fill
+pub fill-stands : (p : Moment) → p .dated ≡ true → p .timed ≡ true → p ≡ fill p
+unfolding fill
+fill-stands p d t = sym (ap fillTime (date-stands p d) ∙ time-stands p t)
 
 -- ---- what is read
 pub timed-utc : (t : Time) → t .utc ≡ true → timed t ≡ setUtc (setZone (setTimed (setTime blank (t .hour) (t .minute) (t .second)) true) (t .zone))

@@ -2,3 +2,4 @@
 pub mod Held
 pub mod Ranges
 pub mod Steps
+pub mod Sums

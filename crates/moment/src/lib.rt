@@ -9,12 +9,14 @@ ghost use mathlib.Core.Bool.{true};
 ghost use Prim.Native.Nat.{_-_, _≤_, _<_};
 ghost use Rattle.rules.specs.Moments as rule;
 ghost use Rattle.rules.specs.Reading as reading;
-ghost use Rattle.calendar.specs.Ranges.{MonthDay};
+ghost use Rattle.calendar.specs.Ranges.{MonthDay, Countable};
 ghost use Rattle.real.specs.InMinute.{inMinute};
 ghost use Rattle.moment.specs.Held.{held};
-ghost use Rattle.moment.specs.Ranges.{sumTakes, TimeRead, ReadYear, Near, Sane, After, Filled};
+ghost use Rattle.moment.specs.Ranges.{sumTakes, TimeIn, TimeRead, ReadYear, Sane, After, Filled};
+ghost use Rattle.moment.specs.Sums.{dateMeant, timeMeant, instantOf, summedTo, Unsettled};
 use rules::Refusal;
 use rules::Time;
+use rules::Ymd;
 
 mod modify;
 mod signs;
@@ -77,6 +79,15 @@ pub fn time_ms(hour: u32, minute: u32, second: f64) -> u64
     ensures { λ r. ⌜ (r ≡ rule.timeMs hour minute second) × (r < 90000000) ⌝ }
 {
     hour as u64 * 3600000 + minute as u64 * 60000 + real::seconds_ms(second)
+}
+
+// The instant of a date and a time of day in a zone. No zone, held as 1440 minutes, is 86400000 ms.
+fn instant(year: u32, month: u32, day: u32, hour: u32, minute: u32, second: f64, zone: u32) -> u64
+    requires { ⌜ Countable year month day ⌝ ∗ ⌜ TimeIn hour minute true second zone ⌝ }
+    ensures { λ r. ⌜ r ≡ instantOf year month day hour minute second zone ⌝ }
+{
+    let local = calendar::midnight(year, month, day) + time_ms(hour, minute, second);
+    local + 86400000 - zone as u64 * 60000
 }
 
 // Whether fields are summed: not where the seconds are a number as it was given.
@@ -181,38 +192,60 @@ impl Moment {
 
     // ---- milliseconds from fields: the Rust's compute_jd
 
-    // The time of day added, where it stands; and the zone taken off, where there is one: the fields then no longer stand.
-    fn with_time(mut self) -> Moment
-        requires { ⌜ Sane (held self) × Near 0 (self .ms) ⌝ }
-        ensures { λ r. ⌜ held r ≡ rule.withTime (held self) ⌝ }
+    // The date that is summed: 2000-01-01 where none stands.
+    fn date_meant(self) -> Ymd
+        ensures { λ r. ⌜ r ≡ dateMeant (held self) ⌝ }
     {
-        if !self.timed {
+        if self.dated {
+            return Ymd {
+                year: self.year,
+                month: self.month,
+                day: self.day,
+            };
+        }
+        Ymd {
+            year: YEAR_2000,
+            month: 1,
+            day: 1,
+        }
+    }
+
+    // And the time of day, with its zone: midnight and none where none stands.
+    fn time_meant(self) -> Time
+        ensures { λ r. ⌜ r ≡ timeMeant (held self) ⌝ }
+    {
+        if self.timed {
+            return Time {
+                hour: self.hour,
+                minute: self.minute,
+                second: self.second,
+                zone: self.zone,
+                utc: false,
+            };
+        }
+        Time {
+            hour: 0,
+            minute: 0,
+            second: 0.0,
+            zone: NO_ZONE,
+            utc: false,
+        }
+    }
+
+    // The milliseconds of the fields. Where a zone was taken off, they no longer stand.
+    fn summed(mut self, ms: u64, zone: u32) -> Moment
+        requires { ⌜ Sane (held self) ⌝ }
+        ensures { λ r. ⌜ held r ≡ summedTo (held self) ms zone ⌝ }
+    {
+        self.ms = ms;
+        self.counted = true;
+        if zone == NO_ZONE {
             return self;
         }
-        self.ms += time_ms(self.hour, self.minute, self.second);
-        if self.zone == NO_ZONE {
-            return self;
-        }
-        // no zone, held as 1440 minutes, is 86400000 ms
-        let zone = self.zone as u64 * 60000;
-        self.ms = self.ms + 86400000 - zone;
         self.clear().known_utc()
     }
 
-    // Where the fields are not summed, the error record is left.
-    fn sum_of(mut self, year: u32, month: u32, day: u32) -> Moment
-        requires { ⌜ Sane (held self) × MonthDay month day ⌝ }
-        ensures { λ r. ⌜ held r ≡ rule.sumOf (held self) year month day ⌝ }
-    {
-        if !summable(year, self.raw) {
-            return Moment::failure();
-        }
-        self.ms = calendar::midnight(year, month, day);
-        self.counted = true;
-        self.with_time()
-    }
-
-    // The milliseconds, where they do not stand: of the date, or of 2000-01-01.
+    // The milliseconds, where they do not stand. Where the fields are not summed, the error record is left.
     pub fn count_ms(self) -> Moment
         requires { ⌜ Sane (held self) ⌝ }
         ensures { λ r. ⌜ Filled self r (rule.countMs (held self)) ⌝ }
@@ -220,10 +253,36 @@ impl Moment {
         if self.counted {
             return self;
         }
-        if self.dated {
-            return self.sum_of(self.year, self.month, self.day);
+        let d = self.date_meant();
+        if !summable(d.year, self.raw) {
+            return Moment::failure();
         }
-        self.sum_of(YEAR_2000, 1, 1)
+        let t = self.time_meant();
+        let ms = instant(d.year, d.month, d.day, t.hour, t.minute, t.second, t.zone);
+        self.summed(ms, t.zone)
+    }
+
+    // "a zone is taken off at once" of a date and time that were read; without one the record stays.
+    pub fn settled(self) -> Moment
+        requires { ⌜ Sane (held self) × Unsettled (held self) ⌝ }
+        ensures { λ r. ⌜ Filled self r (reading.settled (held self)) ⌝ }
+    {
+        if self.zone == NO_ZONE {
+            return self;
+        }
+        if !summable(self.year, self.raw) {
+            return Moment::failure();
+        }
+        let ms = instant(
+            self.year,
+            self.month,
+            self.day,
+            self.hour,
+            self.minute,
+            self.second,
+            self.zone,
+        );
+        self.summed(ms, self.zone)
     }
 
     // ---- fields from milliseconds: the Rust's compute_ymd and compute_hms
@@ -273,11 +332,22 @@ impl Moment {
         p.on_time(calendar::time_of_day(p.ms))
     }
 
-    pub fn fill(self) -> Moment
+    // Both, where one of them is missing.
+    fn filled(self) -> Moment
         requires { ⌜ Sane (held self) ⌝ }
         ensures { λ r. ⌜ Filled self r (rule.fill (held self)) ⌝ }
     {
         self.fill_date().fill_time()
+    }
+
+    pub fn fill(self) -> Moment
+        requires { ⌜ Sane (held self) ⌝ }
+        ensures { λ r. ⌜ Filled self r (rule.fill (held self)) ⌝ }
+    {
+        if self.dated && self.timed {
+            return self;
+        }
+        self.filled()
     }
 
     // ---- the month's end: the Rust's compute_floor

@@ -3,10 +3,11 @@
 // A step that moves the milliseconds takes a record to which at most 15 modifiers came before (`Movable`), and one more has come to what it
 // hands back (`Moved`). One that only fills takes any, and hands back one that is no further (`Filled`).
 ghost use mathlib.Core.Path.{_≡_};
-ghost use mathlib.Core.Bool.{true, false, _||_};
+ghost use mathlib.Core.Bool.{true, false, not, _&&_, _||_};
 ghost use mathlib.Core.List.{[]};
 ghost use Prim.Native.Nat.{_+_, _*_, _≤_, _<_};
 ghost use lib.IntN.{natAbs};
+ghost use Rattle.rules.specs.Calendar.{inRange};
 ghost use Rattle.rules.specs.Floats.{cut};
 ghost use Rattle.rules.specs.Functions as functions;
 ghost use Rattle.rules.specs.Moments as rule;
@@ -307,19 +308,23 @@ impl Moment {
 
     // ---- for the functions
 
+    // Whether the milliseconds stand for an instant: no sum failed, and they are 0 to the last.
+    pub fn in_range(self) -> bool
+        ensures { λ r. ⌜ r ≡ (not (self .failed) && inRange (self .ms)) ⌝ }
+    {
+        if self.failed {
+            return false;
+        }
+        ZERO <= self.ms && self.ms <= LAST
+    }
+
     // "final range": a failed sum, or a time outside 0 to the last millisecond, gives 1.
     pub fn ranged(self) -> Step
         requires { ⌜ Sane (held self) ⌝ }
         ensures { λ r. ⌜ Answered self r (functions.ranged (held self)) × Lands Ranged r ⌝ }
     {
         let p = self.count_ms();
-        if p.failed {
-            return Step::Refused(Refusal::Null);
-        }
-        if p.ms < ZERO {
-            return Step::Refused(Refusal::Null);
-        }
-        if p.ms > LAST {
+        if !p.in_range() {
             return Step::Refused(Refusal::Null);
         }
         Step::Next(p)
@@ -334,6 +339,6 @@ impl Moment {
             return self.fill();
         }
         self.dated = false;
-        self.fill()
+        self.filled()
     }
 }

@@ -15,13 +15,13 @@ fill-requires c κs = search needs
 returns : tie.Need-returns
 returns c = filled-as (renew-not (held (c .before .before .before .args .self)) (c .before .if1 .taken)) (c .fill .ensures)
 
-fill-requires-2 : tie.Need-fill-requires-2
-fill-requires-2 c κs = search needs
+filled-requires : tie.Need-filled-requires
+filled-requires c κs = search needs
 
 returns-2 : tie.Need-returns-2
 returns-2 c =
     let d = c .before .before .before in
-    filled-as (renew (held (d .args .self)) (c .before .if1 .left)) (then-fill fill (filled _ (undated-kept (held (d .args .self))) (d .pre) refl) (c .fill2 .ensures))
+    filled-as (renew (held (d .args .self)) (c .before .if1 .left)) (then-fill fill (filled _ (undated-kept (held (d .args .self))) (d .pre) refl) (c .filled .ensures))
 
 pub renewed-spec : {M : Type 1} → statement M
-renewed-spec = tie.close (tie.spec fill-requires returns fill-requires-2 returns-2)
+renewed-spec = tie.close (tie.spec fill-requires returns filled-requires returns-2)
