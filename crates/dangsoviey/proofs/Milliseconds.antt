@@ -10,7 +10,7 @@ use lib.Signed.{ltZ}
 use Rattle.rules.specs.Basics.{ascii, Read, got, _>>=_}
 use Rattle.rules.specs.Calendar.{inRange}
 use Rattle.rules.specs.Calls.{Value, Outcome, text, integer, refused, call, answered}
-use Rattle.rules.specs.Functions.{momentOf, settle}
+use Rattle.rules.specs.Functions.{momentOf, settle, opened}
 use Rattle.rules.specs.Moments.{Moment, blank, counted, setUtc, setSubsec, countMs, fill}
 use Rattle.rules.specs.Reading.{now}
 use Rattle.rules.specs.Writing.{sinceEpoch, dateText, timeText}
@@ -28,7 +28,6 @@ use Rattle.moment.specs.declared.Step.the-variants.{Next, Refused}
 use Rattle.moment.proofs.Bounds.{fill-full}
 use Rattle.moment.proofs.Steps.{in-range, before-range, after-range}
 use Rattle.datetime.specs.Given.{Gives}
-use Rattle.datetime.specs.Opened.{opened}
 use Rattle.datetime.proofs.Given.{gives-refusal}
 use Rattle.dangsoviey.specs.Milliseconds.{milliseconds, instantOf, stamped, stamp}
 

@@ -6,13 +6,12 @@ use lib.IntN.{ℤ}
 use Rattle.rules.specs.Basics.{if_then_else_, ascii, move, got, _>>=_}
 use Rattle.rules.specs.Calendar.{unixEpoch, inRange}
 use Rattle.rules.specs.Calls.{Value, Outcome, text, integer, refused, call}
-use Rattle.rules.specs.Functions.{momentOf, settle}
+use Rattle.rules.specs.Functions.{momentOf, settle, opened}
 use Rattle.rules.specs.Moments.{Moment, blank, counted, setUtc, setSubsec, fill}
 use Rattle.rules.specs.Writing.{sinceEpoch, dateText, timeText}
 use Rattle.rules.specs.declared.Function.{Function}
 use Rattle.rules.specs.declared.Refusal.{Refusal}
 use Rattle.rules.specs.declared.Setting.{Setting}
-use Rattle.datetime.specs.Opened.{opened}
 
 -- the moment that a call is about, as whole milliseconds from 1970; 2, 3 and 4 are tested first
 unfoldable pub milliseconds : Setting → Value → List ℕ → Outcome

@@ -9,7 +9,7 @@ use lib.Ieee.{Float}
 use lib.ListN.{length}
 use Rattle.rules.specs.Basics.{ascii, Read, got, _>>=_}
 use Rattle.rules.specs.Calls.{Value, Call, Outcome, text, refused, call, strftime, badShape, badBytes, answered}
-use Rattle.rules.specs.Functions.{momentOf, renewed, outcomeOf, reading, settle, answer}
+use Rattle.rules.specs.Functions.{momentOf, renewed, outcomeOf, reading, settle, answer, opened}
 use Rattle.rules.specs.Moments.{Moment, fill}
 use Rattle.rules.specs.Writing.{dateText, timeText, unixReal, unixSeconds, julianReal, formatted}
 use Rattle.rules.specs.declared.Answer.{Answer}
@@ -24,7 +24,7 @@ use Rattle.moment.specs.declared.Step.the-variants.{Next, Refused}
 use Rattle.moment.proofs.Bounds.{fill-full, renewed-full}
 use Rattle.writing.specs.Printable.{Printable}
 use Rattle.datetime.specs.Given.{formattedOf}
-use Rattle.datetime.specs.Opened.{opened, Ready}
+use Rattle.datetime.specs.Opened.{Ready}
 use Rattle.datetime.proofs.Opened.{opened-then, answer-is}
 
 -- ---- the record

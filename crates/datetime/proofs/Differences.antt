@@ -3,14 +3,13 @@ use Prim.Native.Nat.{ℕ}
 use mathlib.Core.Path.{_≡_, refl, sym, ap, _∙_, subst}
 use Rattle.rules.specs.Basics.{Read, got, other, refuse, _>>=_}
 use Rattle.rules.specs.Calls.{Value, Outcome, text, refused, timediff}
-use Rattle.rules.specs.Functions.{present, ranged, reading, settle, answer}
+use Rattle.rules.specs.Functions.{present, ranged, reading, settle, answer, opened}
 use Rattle.rules.specs.Moments.{Moment}
 use Rattle.rules.specs.Reading.{timeValue}
 use Rattle.rules.specs.Writing.{difference}
 use Rattle.rules.specs.declared.Refusal.{Refusal}
 use Rattle.rules.specs.declared.Setting.{Setting}
 use Rattle.calendar.specs.Ranges.{InRange}
-use Rattle.datetime.specs.Opened.{opened}
 use Rattle.datetime.specs.Instants.{rangedBoth, instants, instantsOf, BothInRange}
 use Rattle.datetime.specs.declared.calls.Pair.{Pair}
 use Rattle.datetime.specs.declared.calls.Pair.the-variants.{Are, Refused}

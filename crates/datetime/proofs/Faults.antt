@@ -9,6 +9,7 @@ use lib.Dec.{ltb, leb, leb·suc-suc}
 use lib.ListN.{length}
 use lib.IntN.{ℤ, pos, negsuc, natAbs}
 use lib.Signed.{ltZ}
+use Rattle.rules.specs.Functions.{opened}
 use Rattle.rules.specs.Basics.{if_then_else_, every, Read, refuse}
 use Rattle.rules.specs.Calls.{Value, valueOf, bytesOf, Call, call, strftime, timediff, over, high, modifiersBad, badShape, badBytes, badSetting, farOff}
 use Rattle.rules.specs.declared.Function.{Function}
@@ -22,7 +23,6 @@ use Rattle.moment.proofs.Branches.{never}
 use Rattle.datetime.specs.declared.calls.Gate.{Gate}
 use Rattle.datetime.specs.declared.calls.Gate.the-variants as gate
 use Rattle.datetime.specs.Faults.{faultIn, eitherOf, gated}
-use Rattle.datetime.specs.Opened.{opened}
 
 -- ---- two at a time
 pub either-in : (s b t d : Bool) → eitherOf (faultIn s b) (faultIn t d) ≡ faultIn (s || t) (b || d)

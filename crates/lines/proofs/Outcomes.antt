@@ -36,7 +36,7 @@ module _ (P : Outcome → Type 0) (none : (x : Refusal) → P (refused x)) where
   unfolding answer
   answer-holds set c h = go (badShape c) (badBytes c) (badSetting set)
     where
-      go : (s b t : Bool) → P (if s then refused Refusal.Shape else (if b then refused Refusal.Bytes else (if t then refused Refusal.Setting else settle (reading set c))))
+      go : (s b t : Bool) → P (settle (if s then refuse Refusal.Shape else (if b then refuse Refusal.Bytes else (if t then refuse Refusal.Setting else reading set c))))
       go true b t = none Refusal.Shape
       go false true t = none Refusal.Bytes
       go false false true = none Refusal.Setting

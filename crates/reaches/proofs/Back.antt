@@ -69,9 +69,9 @@ read-said (refuse x) s = tt
 pub said : (set : Setting) (a b : Value) → Said (answer set (timediff a b))
 unfolding answer reading
 said set a b =
-    either Said (badShape (timediff a b)) _ _ tt
-    (either Said (badBytes (timediff a b)) _ _ tt
-    (either Said (badSetting set) _ _ tt
+    either (λ r. Said (settle r)) (badShape (timediff a b)) _ _ tt
+    (either (λ r. Said (settle r)) (badBytes (timediff a b)) _ _ tt
+    (either (λ r. Said (settle r)) (badSetting set) _ _ tt
     (read-said (timeValue (set .clock) (present a)) (timeValue (set .clock) (present b)))))
 
 -- ---- what an answer tells of the outcome

@@ -65,9 +65,11 @@ settle other = refused Refusal.Null
 settle (refuse r) = refused r
 
 -- "2, 3, 4 are tested first, in that order, over all arguments, whether used or not."
+abbrev pub opened : {A : Type 0} → Setting → Call → Read A → Read A
+opened set c read =
+    if badShape c then refuse Refusal.Shape else (
+    if badBytes c then refuse Refusal.Bytes else (
+    if badSetting set then refuse Refusal.Setting else read))
+
 unfoldable pub answer : Setting → Call → Outcome
-answer set c =
-    let read = settle (reading set c) in
-    if badShape c then refused Refusal.Shape else (
-    if badBytes c then refused Refusal.Bytes else (
-    if badSetting set then refused Refusal.Setting else read))
+answer set c = settle (opened set c (reading set c))
