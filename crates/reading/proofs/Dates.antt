@@ -5,19 +5,17 @@ use mathlib.Core.Path.{_≡_, refl, sym, _∙_}
 use mathlib.Core.List.{List, [], _∷_}
 use native.Mathlib.Omega.{arith}
 use borrow.Author.Tests.{eqb-true}
-use lib.Dec.{eqb}
 use lib.ListN.{length, drop, length-drop}
-use Rattle.rules.specs.Basics.{Read, got, other, _>>=_, _or_, byte, digits, digitsOn, skip}
+use Rattle.rules.specs.Basics.{if_then_else_, Read, got, other, _>>=_, _or_, byte, digits, digitsOn, skip}
 use Rattle.rules.specs.Calendar.{year, minusYear}
-use Rattle.rules.specs.Moments.{Moment, noZone, countMs, setDate, setDated, pastEnd}
+use Rattle.rules.specs.Moments.{Moment, blank, setTime, setTimed, setZone, setUtc, setDate, setDated, pastEnd}
 use Rattle.rules.specs.Reading.{time, timed, timeAfter, settled, dateFrom, dateForm, timeForm}
 use Rattle.rules.specs.declared.Time.{Time}
-use Rattle.moment.specs.Ranges.{ReadYear, Sane, After}
-use Rattle.moment.proofs.Branches.{either}
-use Rattle.moment.proofs.Bounds.{Kept, count-kept}
+use Rattle.moment.specs.Ranges.{ReadYear}
+use Rattle.moment.specs.Sums.{Unsettled}
 use Rattle.text.specs.Places.{begins, gap}
 use Rattle.text.proofs.Digits.{digits-short}
-use Rattle.reading.specs.Readers.{yearMonthDay, heldYear}
+use Rattle.reading.specs.Readers.{yearMonthDay, heldYear, Fresh}
 use Rattle.reading.proofs.Steps.{or-other, then-then, char-then, digits-then}
 
 -- ---- YYYY-MM-DD
@@ -70,17 +68,24 @@ unfolding timeForm
 time-follows [] h = absurd (omega arith)
 time-follows (b ∷ l) h = refl
 
+-- no milliseconds stand, and a zone only where there is a time
+pub blank-fresh : Fresh blank
+blank-fresh = record { uncounted = refl; timed = λ h. absurd (true≢false h) }
+
+pub timed-fresh : (t : Time) → Fresh (timed t)
+timed-fresh t = go (t .utc)
+  where
+    p : Moment
+    p = setZone (setTimed (setTime blank (t .hour) (t .minute) (t .second)) true) (t .zone)
+
+    go : (u : Bool) → Fresh (if u then setUtc p else p)
+    go true = record { uncounted = refl; timed = λ h. refl }
+    go false = record { uncounted = refl; timed = λ h. refl }
+
 -- ---- a year that is read
 pub held-year-in : (minus : Bool) (y r : ℕ) → y ≤ 9999 → r ≡ heldYear minus y → ReadYear r
 held-year-in true y r h e = omega arith
 held-year-in false y r h e = omega arith
-
--- ---- a zone taken off
-pub settled-kept : (p : Moment) → Kept p (settled p)
-settled-kept p = record {
-  sane = λ s. either Sane (eqb (p .zone) noZone) p (countMs p) s (count-kept p .sane s);
-  after = λ n a. either (After n) (eqb (p .zone) noZone) p (countMs p) a (count-kept p .after n a);
-}
 
 -- ---- with the time after it
 module _ (held : ℕ → ℕ) (l : List ℕ) where
@@ -97,6 +102,11 @@ module _ (held : ℕ → ℕ) (l : List ℕ) where
 
     pub date-and-time : (p : Moment) → timeAfter (skip gap t) ≡ got p → dateFrom held l ≡ got (settled (pastEnd (setDated (setDate p (held y) m d) true)))
     date-and-time p k = parts ∙ rw (h, k)
+
+-- with no milliseconds: a zone may be taken off
+pub date-unsettled : (p q : Moment) (y m d : ℕ) → Fresh p → q ≡ pastEnd (setDated (setDate p y m d) true) → Unsettled q
+unfolding pastEnd
+date-unsettled p q y m d h e = rw e record { uncounted = h .uncounted; dated = refl; timed = h .timed }
 
 -- ---- a minus before it
 minus : (l : List ℕ) → dateForm (45 ∷ l) ≡ dateFrom minusYear l

@@ -2,14 +2,16 @@
 use Prim.Native.Nat.{ℕ, zero, suc, _+_, _-_, _*_, _≤_, _<_}
 use Prim.Native.Char.{Char, code}
 use mathlib.Core.Bool.{Bool, true, false, _&&_, true≢false}
+use mathlib.Core.Logic.{_≢_}
 use mathlib.Core.Path.{_≡_, refl, sym, ap, _∙_}
 use mathlib.Core.List.{List, [], _∷_}
 use native.Mathlib.Decide.{decLe}
 use native.Mathlib.Numerals.{add-one}
 use native.Mathlib.Omega.{arith}
+use borrow.Author.Tests.{eq-eqb, ne-eqb}
 use lib.Dec.{leb}
 use lib.ListN.{length, getD, drop, drop-of-length-le}
-use lib.Seq.{drop-cons, drop-drop}
+use lib.Seq.{drop-cons}
 use Rattle.rules.specs.Basics.{if_then_else_, is, isDigit, Read, got, other, refuse, _>>=_, _or_, onlyIf, ended, byte, digitsOn, digits}
 use Rattle.text.specs.Places.{begins}
 
@@ -30,21 +32,6 @@ pub read-as : {R A : Type 0} (of : R → Read A) {r x : R} {d : Read A} → of r
 read-as of h e = sym h ∙ ap of e
 
 -- ---- a character
-module _ (c : Char) where
-  front : (l : List ℕ) → byte c l ≡ onlyIf (begins (code c) l) (drop 1 l)
-  front [] = refl
-  front (b ∷ l) = refl
-
-  module _ (s : List ℕ) (at : ℕ) (r : Bool) (h : r ≡ begins (code c) (drop at s)) where
-    char-at : byte c (drop at s) ≡ onlyIf r (drop (at + 1) s)
-    char-at = front (drop at s) ∙ rw (← h, drop-drop 1 at s)
-
-    pub char-got : r ≡ true → byte c (drop at s) ≡ got (drop (at + 1) s)
-    char-got e = char-at ∙ rw e
-
-    pub char-other : r ≡ false → byte c (drop at s) ≡ other
-    char-other e = char-at ∙ rw e
-
 -- a byte that is there stands before the end
 pub inside : (b : ℕ) (s : List ℕ) (at : ℕ) → begins b (drop at s) ≡ true → at < length s
 inside b s at h = go (decLe (length s) at)
@@ -55,6 +42,14 @@ inside b s at h = go (decLe (length s) at)
 
 pub at-byte : (s : List ℕ) (at : ℕ) → at < length s → drop at s ≡ getD s at 0 ∷ drop (at + 1) s
 at-byte s at h = rw add-one (drop-cons s at 0 h)
+
+-- a byte that is read, against a character
+module _ (c : Char) (s : List ℕ) (at : ℕ) (h : at < length s) where
+  pub byte-is : getD s at 0 ≡ code c → byte c (drop at s) ≡ got (drop (at + 1) s)
+  byte-is e = rw (at-byte s at h, eq-eqb (code c) (getD s at 0) (sym e))
+
+  pub byte-not : getD s at 0 ≢ code c → byte c (drop at s) ≡ other
+  byte-not e = rw (at-byte s at h, ne-eqb (code c) (getD s at 0) (λ k. e (sym k)))
 
 -- ---- the end
 pub ended-at : {A : Type 0} (s : List ℕ) (at : ℕ) (a : A) → length s ≤ at → ended (drop at s) a ≡ got a

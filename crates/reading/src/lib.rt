@@ -11,9 +11,8 @@ ghost use Rattle.rules.specs.Basics.{_or_};
 ghost use Rattle.rules.specs.Calls.{valueOf, bytesOf};
 ghost use Rattle.rules.specs.Moments.{noZone};
 ghost use Rattle.rules.specs.Reading as reading;
-ghost use Rattle.reading.specs.Readers.{hourMinute, hourMinuteOf, UpTo, minutesOf, zoneOf, secondsOf, timeOf, eastBy, westBy, FewMinutes, ZoneHeld, SecondsHeld, TimeHeld, yearMonthDay, ymdOf, InYear, heldYear, formOf, FormHeld, subsecValue};
-ghost use Rattle.moment.specs.Held.{held};
-ghost use Rattle.moment.specs.Ranges.{Sane, After, Filled, readOf, Lands};
+ghost use Rattle.reading.specs.Readers.{hourMinute, hourMinuteOf, UpTo, minutesOf, zoneOf, secondsOf, timeOf, eastBy, westBy, FewMinutes, ZoneHeld, SecondsHeld, TimeHeld, yearMonthDay, ymdOf, InYear, heldYear, formOf, FormHeld, FormFresh, subsecValue};
+ghost use Rattle.moment.specs.Ranges.{After, readOf, Lands};
 use decimal::Number;
 use moment::Moment;
 use moment::Step;
@@ -41,13 +40,13 @@ fn hour_minute(s: &[u8], at: usize, most: u32) -> HourMinute
     if text::left(s, at) < 5 {
         return HourMinute::Other;
     }
-    let Found::Number(hour, colon) = text::two_digits(s, at, 0, most) else {
+    let Found::Number(hour, colon) = text::two_at(s, at, 0, most) else {
         return HourMinute::Other;
     };
-    if !text::has(s, colon, b':') {
+    if s[colon] != b':' {
         return HourMinute::Other;
     }
-    let Found::Number(minute, next) = text::two_digits(s, colon + 1, 0, 59) else {
+    let Found::Number(minute, next) = text::two_at(s, colon + 1, 0, 59) else {
         return HourMinute::Other;
     };
     HourMinute::Is(hour, minute, next)
@@ -220,19 +219,19 @@ pub fn year_month_day(s: &[u8], at: usize, low: u32, months: u32, days: u32) -> 
     if text::left(s, at) < 10 {
         return YearMonthDay::Other;
     }
-    let Found::Number(year, dash) = text::four_digits(s, at, 0, 9999) else {
+    let Found::Number(year, dash) = text::four_at(s, at) else {
         return YearMonthDay::Other;
     };
-    if !text::has(s, dash, b'-') {
+    if s[dash] != b'-' {
         return YearMonthDay::Other;
     }
-    let Found::Number(month, second) = text::two_digits(s, dash + 1, low, months) else {
+    let Found::Number(month, second) = text::two_at(s, dash + 1, low, months) else {
         return YearMonthDay::Other;
     };
-    if !text::has(s, second, b'-') {
+    if s[second] != b'-' {
         return YearMonthDay::Other;
     }
-    let Found::Number(day, next) = text::two_digits(s, second + 1, low, days) else {
+    let Found::Number(day, next) = text::two_at(s, second + 1, low, days) else {
         return YearMonthDay::Other;
     };
     YearMonthDay::Is(year, month, day, next)
@@ -256,7 +255,7 @@ pub enum Form {
 pub fn time_alone(s: &[u8], at: usize) -> Form
     requires { ⌜ length (now s) ≤ 255 ⌝ }
     ensures { λ r. ⌜ formOf r ≡ reading.timeForm (drop at (now (s .entry))) ⌝ }
-    ensures { λ r. ⌜ FormHeld r ⌝ }
+    ensures { λ r. ⌜ FormHeld r × FormFresh r ⌝ }
 {
     let Daytime::Is(t) = time(s, at) else {
         return Form::Other;
@@ -268,7 +267,7 @@ pub fn time_alone(s: &[u8], at: usize) -> Form
 fn time_after(s: &[u8], at: usize) -> Form
     requires { ⌜ length (now s) ≤ 255 ⌝ }
     ensures { λ r. ⌜ formOf r ≡ reading.timeAfter (drop at (now (s .entry))) ⌝ }
-    ensures { λ r. ⌜ FormHeld r ⌝ }
+    ensures { λ r. ⌜ FormHeld r × FormFresh r ⌝ }
 {
     if s.len() <= at {
         return Form::Is(Moment::blank());
@@ -276,23 +275,14 @@ fn time_after(s: &[u8], at: usize) -> Form
     time_alone(s, at)
 }
 
-// A zone is taken off at once.
-fn settled(p: Moment) -> Moment
-    requires { ⌜ Sane (held p) ⌝ }
-    ensures { λ r. ⌜ Filled p r (reading.settled (held p)) ⌝ }
-{
-    if p.zone == NO_ZONE {
-        return p;
-    }
-    p.count_ms()
-}
-
-// "`[-]YYYY-MM-DD` with optional time", after the minus. "Between date and time any run of whitespace and `T`, also none."
-fn date_from(s: &[u8], at: usize, minus: bool) -> Form
+// "`[-]YYYY-MM-DD` with optional time". "Between date and time any run of whitespace and `T`, also none." A zone is taken off at once.
+pub fn date(s: &[u8]) -> Form
     requires { ⌜ length (now s) ≤ 255 ⌝ }
-    ensures { λ r. ⌜ formOf r ≡ reading.dateFrom (heldYear minus) (drop at (now (s .entry))) ⌝ }
+    ensures { λ r. ⌜ formOf r ≡ reading.dateForm (now (s .entry)) ⌝ }
     ensures { λ r. ⌜ FormHeld r ⌝ }
 {
+    let minus = text::has(s, 0, b'-');
+    let at = if minus { 1 } else { 0 };
     let YearMonthDay::Is(y, month, day, end) = year_month_day(s, at, 1, 12, 31) else {
         return Form::Other;
     };
@@ -300,18 +290,7 @@ fn date_from(s: &[u8], at: usize, minus: bool) -> Form
         return Form::Other;
     };
     let year = held_year(y, minus);
-    Form::Is(settled(p.on_date(year, month, day).past_end()))
-}
-
-pub fn date(s: &[u8]) -> Form
-    requires { ⌜ length (now s) ≤ 255 ⌝ }
-    ensures { λ r. ⌜ formOf r ≡ reading.dateForm (now (s .entry)) ⌝ }
-    ensures { λ r. ⌜ FormHeld r ⌝ }
-{
-    if text::has(s, 0, b'-') {
-        return date_from(s, 1, true);
-    }
-    date_from(s, 0, false)
+    Form::Is(p.on_date(year, month, day).past_end().settled())
 }
 
 // ---- a time value

@@ -53,7 +53,7 @@ module _ {A : Type 0} (s : List ℕ) (at : ℕ) (a : A) where
   pub ended-other : at < length s → ended (drop at s) a ≡ other
   ended-other h = rw (drop-cons s at 0 h)
 
--- ---- a number: of `two_digits`, `four_digits`. What is known once the answer is x, and where x is a number
+-- ---- a number: of `two_at`, `four_at`. What is known once the answer is x, and where x is a number
 pub read-of : (s : List ℕ) (r x : Found) (d : Read (ℕ × List ℕ)) → found s r ≡ d → r ≡ x → d ≡ found s x
 read-of s r x d h e = sym h ∙ ap (found s) e
 

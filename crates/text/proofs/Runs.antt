@@ -1,7 +1,7 @@
 -- Runs of bytes that pass a test f: at the front of what stands at a place, and at the end of a text. Assumes nothing.
 use Prim.Native.Nat.{ℕ, suc, _+_, _-_, _≤_, _<_}
-use mathlib.Core.Bool.{Bool, true, false}
-use mathlib.Core.Path.{_≡_, refl, ap, sym}
+use mathlib.Core.Bool.{Bool, true, false, not, _&&_}
+use mathlib.Core.Path.{_≡_, refl, ap, sym, _∙_}
 use mathlib.Core.List.{List, [], _∷_, _++_}
 use native.Mathlib.Numerals.{add-one}
 use native.Mathlib.Omega.{arith}
@@ -9,7 +9,7 @@ use lib.ListN.{length, getD, take, drop, length-drop, drop-of-length-le}
 use lib.Seq.{drop-cons, drop-drop, take-suc, take-all, getD-drop}
 use Rattle.rules.specs.Basics.{if_then_else_, every, skip, front, trimEnd}
 use Rattle.text.specs.Places.{part, endAt, Passed}
-use Rattle.text.proofs.Tests.{and-false}
+use Rattle.text.proofs.Tests.{and-true, and-false}
 
 -- ---- one step at a place
 pub front-past : (f : ℕ → Bool) (s : List ℕ) (i : ℕ) → length s ≤ i → front f (drop i s) ≡ []
@@ -48,6 +48,18 @@ module _ (f : ℕ → Bool) (s : List ℕ) (i : ℕ) (h : i < length s) where
   pub every-stop : f (getD s i 0) ≡ false → every f (drop i s) ≡ false
   unfolding every
   every-stop e = rw (drop-cons s i 0 h, e)
+
+-- ---- a flag that a byte sets which does not pass, found by a loop
+module _ (f : ℕ → Bool) (s : List ℕ) (i : ℕ) where
+  pub flag-past : length s ≤ i → (set : Bool) → every f s ≡ (not set && every f (drop i s)) → every f s ≡ not set
+  flag-past h set e = e ∙ rw (every-past f s i h) (and-true (not set))
+
+  module _ (h : i < length s) (set : Bool) (e : every f s ≡ (not set && every f (drop i s))) where
+    pub flag-on : f (getD s i 0) ≡ true → every f s ≡ (not set && every f (drop (i + 1) s))
+    flag-on k = e ∙ rw (every-on f s i h k)
+
+    pub flag-set : f (getD s i 0) ≡ false → every f s ≡ false
+    flag-set k = e ∙ rw (every-stop f s i h k) (and-false (not set))
 
 -- ---- where a run ends, found by a loop: at one place after another
 pub end-past : (f : ℕ → Bool) (s : List ℕ) (i : ℕ) → length s ≤ i → endAt f s i ≡ i

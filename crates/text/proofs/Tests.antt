@@ -5,6 +5,10 @@ use mathlib.Core.Path.{_≡_, refl, sym}
 use lib.Dec.{eqb}
 use borrow.Author.Tests.{eq-eqb, ne-eqb, eqb-true, eqb-false}
 
+pub and-true : (t : Bool) → t && true ≡ t
+and-true true = refl
+and-true false = refl
+
 pub and-false : (t : Bool) → t && false ≡ false
 and-false true = refl
 and-false false = refl

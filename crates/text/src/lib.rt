@@ -2,9 +2,10 @@
 //
 // The rules read a list from its front: a form takes bytes off, and what follows it is the rest of the list. The code reads a slice at a
 // place. The two meet in one way throughout: what stands at the place `at` of s is `drop at` of its bytes, and where a reader goes on at
-// `next`, what follows is `drop next`. A place may lie past the end, where there is nothing to read: no function asks otherwise of a caller.
+// `next`, what follows is `drop next`. A place may lie past the end, where there is nothing to read: only two_at and four_at ask otherwise of
+// a caller.
 //
-// With s = "2024-02-29TT 10:00": four_digits(s, 0, 0, 9999) is Number(2024, 4), has(s, 4, b'-') is true, two_digits(s, 5, 1, 12) is
+// With s = "2024-02-29TT 10:00": four_at(s, 0) is Number(2024, 4), has(s, 4, b'-') is true, two_digits(s, 5, 1, 12) is
 // Number(2, 7), skip_gap(s, 10) is 13.
 ghost use mathlib.Core.Path.{_≡_};
 ghost use mathlib.Core.Bool.{not};
@@ -81,27 +82,34 @@ pub fn two_digits(s: &[u8], at: usize, lo: u32, hi: u32) -> Found
     if left(s, at) < 2 {
         return Found::Other;
     }
+    two_at(s, at, lo, hi)
+}
+
+// The same where two bytes are known to stand.
+pub fn two_at(s: &[u8], at: usize, lo: u32, hi: u32) -> Found
+    requires { ⌜ at + 2 ≤ length (now s) ⌝ }
+    ensures { λ r. ⌜ found (now (s .entry)) r ≡ rule.digits 2 lo hi (drop at (now (s .entry))) ⌝ }
+    ensures { λ r. ⌜ Told lo hi (at + 2) (length (now (s .entry))) r ⌝ }
+{
     let Found::Number(v, next) = pair(s, at) else {
         return Found::Other;
     };
     limit(v, next, lo, hi)
 }
 
-// Four digits whose number is lo to hi.
-pub fn four_digits(s: &[u8], at: usize, lo: u32, hi: u32) -> Found
-    ensures { λ r. ⌜ found (now (s .entry)) r ≡ rule.digits 4 lo hi (drop at (now (s .entry))) ⌝ }
-    ensures { λ r. ⌜ Told lo hi (at + 4) (length (now (s .entry))) r ⌝ }
+// Four digits, where four bytes are known to stand: 0 to 9999.
+pub fn four_at(s: &[u8], at: usize) -> Found
+    requires { ⌜ at + 4 ≤ length (now s) ⌝ }
+    ensures { λ r. ⌜ found (now (s .entry)) r ≡ rule.digits 4 0 9999 (drop at (now (s .entry))) ⌝ }
+    ensures { λ r. ⌜ Told 0 9999 (at + 4) (length (now (s .entry))) r ⌝ }
 {
-    if left(s, at) < 4 {
-        return Found::Other;
-    }
     let Found::Number(hundreds, mid) = pair(s, at) else {
         return Found::Other;
     };
     let Found::Number(ones, next) = pair(s, mid) else {
         return Found::Other;
     };
-    limit(hundreds * 100 + ones, next, lo, hi)
+    Found::Number(hundreds * 100 + ones, next)
 }
 
 // How many bytes stand from a place on.
@@ -280,16 +288,17 @@ pub fn starts(s: &[u8], w: &[u8]) -> bool
     true
 }
 
-// Whether s holds no "byte above 127".
+// Whether s holds no "byte above 127". It is gone through to its end, which takes less time than a test after each byte.
 pub fn is_ascii(s: &[u8]) -> bool
     ensures { λ r. ⌜ r ≡ rule.every (λ b. leb b 127) (now (s .entry)) ⌝ }
 {
+    let mut high = false;
     let mut i = 0;
     while i < s.len() {
         if 127 < s[i] {
-            return false;
+            high = true;
         }
         i += 1;
     }
-    true
+    !high
 }

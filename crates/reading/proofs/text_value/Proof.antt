@@ -32,7 +32,7 @@ undated : (c : tie.After-enum-told) → dateForm (now (c .before .before .before
 undated c = read-as formOf (c .before .before .date .ensures .0) (c .enum-told .given .1)
 
 returns-2 : tie.Need-returns-2
-returns-2 c = let a = c .before .before .before .before .before .before .before .before .args in (sym (is-time (a .clock) (now (a .s)) (undated (c .before .before .before .before)) _ (read-as formOf (c .before .before .before .time-alone .ensures .0) (c .before .p2 .given .1))), rw (c .before .p2 .given .1) at (c .before .before .before .time-alone .ensures .1))
+returns-2 c = let a = c .before .before .before .before .before .before .before .before .args in (sym (is-time (a .clock) (now (a .s)) (undated (c .before .before .before .before)) _ (read-as formOf (c .before .before .before .time-alone .ensures .0) (c .before .p2 .given .1))), rw (c .before .p2 .given .1) at (c .before .before .before .time-alone .ensures .1 .0))
 
 enum-told-2 : tie.Need-enum-told-2
 enum-told-2 c = search needs

@@ -5,7 +5,7 @@ use lib.ListN.{length, drop, length-drop, drop-of-length-le}
 use denote.Ref.{now}
 use Rattle.rules.specs.Basics.{got}
 use Rattle.rules.specs.Reading.{timeAfter}
-use Rattle.reading.proofs.Dates.{time-follows}
+use Rattle.reading.proofs.Dates.{time-follows, blank-fresh}
 use borrow.Author.Needs.{needs}
 use Rattle.reading.proofs.time_after.Statement.{statement}
 use Rattle.reading.proofs.time_after.Tie as tie
@@ -14,7 +14,7 @@ blank-requires : tie.Need-blank-requires
 blank-requires c κs = search needs
 
 returns : tie.Need-returns
-returns c = (ap got (c .blank .ensures .0) ∙ ap timeAfter (sym (drop-of-length-le (now (c .before .before .before .args .s)) (c .before .if1 .taken))), c .blank .ensures .1)
+returns c = (ap got (c .blank .ensures .0) ∙ ap timeAfter (sym (drop-of-length-le (now (c .before .before .before .args .s)) (c .before .if1 .taken))), (c .blank .ensures .1, rw (c .blank .ensures .0) blank-fresh))
 
 time-alone-requires : tie.Need-time-alone-requires
 time-alone-requires c κs = search needs
