@@ -48,10 +48,6 @@ module _ (v : Value) (m : List ℕ) where
   others : eitherOf (valueFault v) (faultOf m) ≡ faultIn (over 255 (bytesOf v) || modifiersBad m) (high (bytesOf v) || high m)
   others = either-in (over 255 (bytesOf v)) (high (bytesOf v)) (modifiersBad m) (high m)
 
-  pub of-call : (f : Function) → eitherOf (valueFault v) (faultOf m) ≡ faultIn (badShape (call f v m)) (badBytes (call f v m))
-  unfolding badShape badBytes
-  of-call f = others
-
   pub of-strftime : (f : List ℕ) → eitherOf (textFault 1024 f) (eitherOf (valueFault v) (faultOf m)) ≡ faultIn (badShape (strftime f v m)) (badBytes (strftime f v m))
   unfolding badShape badBytes
   of-strftime f = ap (eitherOf (textFault 1024 f)) others ∙ either-in (over 1024 f) (high f) (over 255 (bytesOf v) || modifiersBad m) (high (bytesOf v) || high m)
@@ -112,11 +108,12 @@ stopped set c {x} r h = tests-refused (badShape c) (badBytes c) set x r h
 pub let-through : {A : Type 0} {set : Setting} {c : Call} (r : Read A) → Passed set c → r ≡ opened set c r
 let-through r p = rw (p .shape, p .bytes, p .setting)
 
--- ---- and what each argument then is
-pub value-short : {set : Setting} {f : Function} {v : Value} {m : List ℕ} → Passed set (call f v m) → (over 255 (bytesOf v) ≡ false) × (modifiersBad m ≡ false)
-unfolding badShape
-value-short {set} {f} {v} {m} p = both-false (over 255 (bytesOf v)) (modifiersBad m) (p .shape)
+-- an empty format is never refused: the call is let through as one without
+pub no-format : {A : Type 0} (set : Setting) (f : Function) (v : Value) (m : List ℕ) (r : Read A) {s : Read A} → s ≡ opened set (strftime [] v m) r → s ≡ opened set (call f v m) r
+unfolding badShape badBytes high every
+no-format set f v m r e = e
 
+-- ---- and what each argument then is
 pub format-short : {set : Setting} {f : List ℕ} {v : Value} {m : List ℕ} → Passed set (strftime f v m) → (over 1024 f ≡ false) × (over 255 (bytesOf v) ≡ false) × (modifiersBad m ≡ false)
 unfolding badShape
 format-short {set} {f} {v} {m} p =

@@ -1,5 +1,5 @@
 -- timediff's two instants, one thing after another. Assumes nothing.
-use mathlib.Core.Bool.{false}
+use mathlib.Core.Bool.{true, false}
 use mathlib.Core.Path.{_≡_, refl, sym, ap, _∙_}
 use mathlib.Core.List.{List}
 use Prim.Native.Nat.{ℕ, _≤_}
@@ -8,12 +8,13 @@ use lib.ListN.{length}
 use Rattle.rules.specs.Basics.{Read, got, other, refuse, _>>=_}
 use Rattle.rules.specs.Calls.{Value, valueOf, bytesOf, over, timediff, Outcome, text}
 use Rattle.rules.specs.Functions.{present, ranged, reading}
-use Rattle.rules.specs.Moments.{Moment}
+use Rattle.rules.specs.Moments.{Moment, countMs}
 use Rattle.rules.specs.Reading.{timeValue}
 use Rattle.rules.specs.Writing.{difference}
 use Rattle.rules.specs.declared.Given.{Given}
 use Rattle.rules.specs.declared.Refusal.{Refusal}
 use Rattle.rules.specs.declared.Setting.{Setting}
+use Rattle.moment.proofs.Modifiers.{passes}
 use Rattle.datetime.specs.Instants.{rangedBoth, instants, presentOf}
 
 -- ---- what is given, where an absent one is null
@@ -38,19 +39,19 @@ module _ (g : Given) (s : List ℕ) {x : Given} where
   pub present-short : x ≡ presentOf g → over 255 (bytesOf (valueOf g s)) ≡ false → length (bytesOf (valueOf x s)) ≤ 255
   present-short e h = rw (e, present-bytes g s) (ltb-false 255 (length (bytesOf (valueOf g s))) h)
 
--- ---- the final range of both
-module _ (p q : Moment) where
-  pub both-are : {a b : Moment} → ranged p ≡ got a → ranged q ≡ got b → rangedBoth p q ≡ got (a .ms, b .ms)
-  unfolding rangedBoth
-  both-are e f = rw (e, f)
+-- ---- the final range of both, once their milliseconds are counted
+module _ (p q : Moment) {a b : Moment} (e : a ≡ countMs p) (f : b ≡ countMs q) where
+  pub both-are : passes a ≡ true → passes b ≡ true → rangedBoth p q ≡ got (a .ms, b .ms)
+  unfolding rangedBoth ranged
+  both-are h k = rw (sym e, sym f, h, k)
 
-  pub second-out : {a : Moment} {x : Refusal} → ranged p ≡ got a → ranged q ≡ refuse x → rangedBoth p q ≡ refuse x
-  unfolding rangedBoth
-  second-out e f = rw (e, f)
+  pub second-out : passes a ≡ true → passes b ≡ false → rangedBoth p q ≡ refuse Refusal.Null
+  unfolding rangedBoth ranged
+  second-out h k = rw (sym e, sym f, h, k)
 
-  pub first-out : {x : Refusal} → ranged p ≡ refuse x → rangedBoth p q ≡ refuse x
-  unfolding rangedBoth
-  first-out e = rw e
+  pub first-out : passes a ≡ false → rangedBoth p q ≡ refuse Refusal.Null
+  unfolding rangedBoth ranged
+  first-out h = rw (sym e, h)
 
 -- ---- both values
 module _ (set : Setting) (a b : Value) where

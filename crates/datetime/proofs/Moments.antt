@@ -1,7 +1,7 @@
 -- The moment of a call: its time value, its modifiers, the final range. Assumes nothing.
 use mathlib.Core.Path.{_≡_}
 use mathlib.Core.List.{List}
-use Prim.Native.Nat.{ℕ}
+use Prim.Native.Nat.{ℕ, _+_}
 use Rattle.rules.specs.Basics.{Read, got, refuse}
 use Rattle.rules.specs.Calls.{Value, modifiers}
 use Rattle.rules.specs.Functions.{momentOf, ranged}
@@ -10,7 +10,7 @@ use Rattle.rules.specs.Moments.{Moment}
 use Rattle.rules.specs.Reading.{timeValue}
 use Rattle.rules.specs.declared.Refusal.{Refusal}
 use Rattle.rules.specs.declared.Setting.{Setting}
-use Rattle.moment.specs.Ranges.{After, Ranged, Lands}
+use Rattle.moment.specs.Ranges.{After, mostBefore, Ranged, Lands}
 use Rattle.moment.specs.declared.Step.{Step}
 use Rattle.moment.specs.declared.Step.the-variants.{Next, Refused}
 use Rattle.datetime.specs.Opened.{Ready}
@@ -29,7 +29,7 @@ module _ (set : Setting) (v : Value) (m : List ℕ) where
   no-value e = rw e
 
 -- ---- what is handed back
-pub lands-ready : (s : Step) → Lands (λ r. After 16 r) s → Lands Ranged s → Lands Ready s
+pub lands-ready : (s : Step) → Lands (λ r. After (mostBefore + 1) r) s → Lands Ranged s → Lands Ready s
 lands-ready (Next p) a b = record { after = a; ranged = b }
 lands-ready (Refused x) a b = tt
 

@@ -121,19 +121,7 @@ fn read(set: Setting, given: Given, value: &[u8], modifiers: &[u8]) -> Step
     }
 }
 
-// The moment that a call of one time value is about.
-pub fn moment_of(set: Setting, given: Given, value: &[u8], modifiers: &[u8]) -> Step
-    ensures { λ r. ⌜ readOf r ≡ opened set (call Function.Date (valueOf given (now (value .entry))) (now (modifiers .entry))) (rule.momentOf set (valueOf given (now (value .entry))) (now (modifiers .entry))) ⌝ }
-    ensures { λ r. ⌜ Lands Ready r ⌝ }
-{
-    let fault = either(fault_of_value(given, value), buffer::fault_of(modifiers));
-    match tested(fault, set) {
-        Gate::Open => read(set, given, value, modifiers),
-        Gate::Refused(r) => Step::Refused(r),
-    }
-}
-
-// And where a format stands before it.
+// The moment that a call is about, of a format and one time value.
 pub fn moment_for(set: Setting, format: &[u8], given: Given, value: &[u8], modifiers: &[u8]) -> Step
     ensures { λ r. ⌜ readOf r ≡ opened set (strftime (now (format .entry)) (valueOf given (now (value .entry))) (now (modifiers .entry))) (rule.momentOf set (valueOf given (now (value .entry))) (now (modifiers .entry))) ⌝ }
     ensures { λ r. ⌜ Lands Ready r ⌝ }
@@ -144,6 +132,14 @@ pub fn moment_for(set: Setting, format: &[u8], given: Given, value: &[u8], modif
         Gate::Open => read(set, given, value, modifiers),
         Gate::Refused(r) => Step::Refused(r),
     }
+}
+
+// And where there is no format: an empty one is never refused.
+pub fn moment_of(set: Setting, given: Given, value: &[u8], modifiers: &[u8]) -> Step
+    ensures { λ r. ⌜ readOf r ≡ opened set (call Function.Date (valueOf given (now (value .entry))) (now (modifiers .entry))) (rule.momentOf set (valueOf given (now (value .entry))) (now (modifiers .entry))) ⌝ }
+    ensures { λ r. ⌜ Lands Ready r ⌝ }
+{
+    moment_for(set, b"", given, value, modifiers)
 }
 
 // ---- timediff's two
@@ -167,19 +163,21 @@ fn present(given: Given) -> Given
     }
 }
 
-// "final range" of the first, then of the second.
+// "final range" of both, which is refused alike.
 fn both_ranged(p: Moment, q: Moment) -> Pair
     requires { ⌜ Sane (held p) × Sane (held q) ⌝ }
     ensures { λ r. ⌜ instantsOf r ≡ rangedBoth (held p) (held q) ⌝ }
     ensures { λ r. ⌜ BothInRange r ⌝ }
 {
-    match p.ranged() {
-        Step::Next(a) => match q.ranged() {
-            Step::Next(b) => Pair::Are(a.ms, b.ms),
-            Step::Refused(r) => Pair::Refused(r),
-        },
-        Step::Refused(r) => Pair::Refused(r),
+    let a = p.count_ms();
+    let b = q.count_ms();
+    if !a.in_range() {
+        return Pair::Refused(Refusal::Null);
     }
+    if !b.in_range() {
+        return Pair::Refused(Refusal::Null);
+    }
+    Pair::Are(a.ms, b.ms)
 }
 
 // "time value (timediff's first, then its second)": both are read before either's range is tested.

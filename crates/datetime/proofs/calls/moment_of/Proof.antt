@@ -1,62 +1,25 @@
 -- `datetime::calls::moment_of` meets its contract. Assumes nothing.
-use mathlib.Core.Path.{_≡_, sym, ap, ap₂, _∙_}
 use denote.Ref.{now}
-use Rattle.rules.specs.Calls.{Call, call, Value, valueOf}
+use Rattle.rules.specs.Calls.{valueOf}
 use Rattle.rules.specs.Functions.{momentOf}
 use Rattle.rules.specs.declared.Function.{Function}
-use Rattle.modifiers.specs.declared.buffer.Fault.{Fault}
-use Rattle.datetime.specs.Faults.{eitherOf, gated}
-use Rattle.datetime.proofs.Faults.{of-call, gateOf, Passed, passed, stopped, let-through, value-short}
+use Rattle.datetime.proofs.Faults.{no-format}
 use borrow.Author.Needs.{needs}
 use Rattle.datetime.proofs.calls.moment_of.Statement.{statement}
 use Rattle.datetime.proofs.calls.moment_of.Tie as tie
 
-abbrev asked : tie.Start → Call
-asked d = call Function.Date (valueOf (d .args .given) (now (d .args .value))) (now (d .args .modifiers))
+slice-aggregate-moment-for : tie.Need-slice-aggregate-moment-for
+slice-aggregate-moment-for c = search needs
 
-gate : (c : tie.After-tested) → let d = c .before .before .before .before .before .before in c .tested .result ≡ gateOf (d .args .set) (asked d)
-gate c = let d = c .before .before .before .before .before .before in c .tested .ensures ∙ ap (λ (f : Fault). gated f (d .args .set)) (c .before .either .ensures ∙ ap₂ eitherOf (c .before .before .before .fault-of-value .ensures) (c .before .before .fault-of .ensures) ∙ of-call (valueOf (d .args .given) (now (d .args .value))) (now (d .args .modifiers)) Function.Date)
-
-through : (c : tie.After-enum-told) → let d = c .before .before .before .before .before .before .before .before in Passed (d .args .set) (asked d)
-through c = let d = c .before .before .before .before .before .before .before .before in passed (d .args .set) (asked d) (sym (gate (c .before .before)) ∙ c .enum-told .given .1)
-
-fault-of-value-requires : tie.Need-fault-of-value-requires
-fault-of-value-requires c κs = search needs
-
-fault-of-requires : tie.Need-fault-of-requires
-fault-of-requires c κs = search needs
-
-either-requires : tie.Need-either-requires
-either-requires c κs = search needs
-
-tested-requires : tie.Need-tested-requires
-tested-requires c κs = search needs
-
-enum-told : tie.Need-enum-told
-enum-told c = search needs
-
-read-requires : tie.Need-read-requires
-read-requires c κs = let p = through c in let s = value-short p in (s .0, s .1, p .setting)
-
-enum-known-r : tie.Need-enum-known-r
-enum-known-r c = search needs
+moment-for-requires : tie.Need-moment-for-requires
+moment-for-requires c κs = search needs
 
 returns : tie.Need-returns
-returns c = (c .read .ensures .0 ∙ let-through _ (through (c .before)), c .read .ensures .1)
-
-returns-2 : tie.Need-returns-2
-returns-2 c = let d = c .before .before .before .before .before .before .before .before .before in (stopped (d .args .set) (asked d) (momentOf (d .args .set) (valueOf (d .args .given) (now (d .args .value))) (now (d .args .modifiers))) (sym (gate (c .before .before .before)) ∙ c .before .r .given .1), tt)
+returns c =
+    let d = c .before .before .before .before in
+    let v = valueOf (d .args .given) (now (d .args .value)) in
+    let m = now (d .args .modifiers) in
+    (no-format (d .args .set) Function.Date v m (momentOf (d .args .set) v m) (c .moment-for .ensures .0), c .moment-for .ensures .1 .0)
 
 pub moment-of-spec : {M : Type 1} → statement M
-moment-of-spec =
-    tie.close
-    (tie.spec
-    fault-of-value-requires
-    fault-of-requires
-    either-requires
-    tested-requires
-    enum-told
-    read-requires
-    enum-known-r
-    returns
-    returns-2)
+moment-of-spec = tie.close (tie.spec slice-aggregate-moment-for moment-for-requires returns)

@@ -1,5 +1,5 @@
 -- `datetime::calls::read` meets its contract. Assumes nothing.
-use Prim.Native.Nat.{_≤_}
+use Prim.Native.Nat.{_+_, _≤_}
 use native.Mathlib.Omega.{arith}
 use mathlib.Core.Path.{_≡_, sym, ap, _∙_, subst}
 use denote.Ref.{now}
@@ -15,7 +15,7 @@ use Rattle.rules.specs.Moments as rule
 use Rattle.rules.specs.Reading.{timeValue}
 use Rattle.moment.specs.Held.{held}
 use Rattle.moment.specs.declared.Step.{Step}
-use Rattle.moment.specs.Ranges.{After, Lands, readOf}
+use Rattle.moment.specs.Ranges.{After, mostBefore, Lands, readOf}
 use Rattle.moment.proofs.Ways.{back}
 use Rattle.datetime.proofs.Faults.{clock-good, offset-good}
 use Rattle.datetime.proofs.Moments.{moment-is, no-modifier, no-value, lands-ready}
@@ -31,8 +31,8 @@ modified-as : (d : tie.Start) (p : rule.Moment) → rules.modified (d .args .set
 modified-as d p = ap (λ (z : ℤ). rules.modified z 0 (modifiers (now (d .args .modifiers))) p) (sym (offset d))
 
 -- after all modifiers
-after-all : (c : tie.After-q) → After 16 (held (c .q .given .0 .0))
-after-all c = subst (λ (s : Step). Lands (λ (r : rule.Moment). After 16 r) s) (c .q .given .1) (c .before .before .modified .ensures .1)
+after-all : (c : tie.After-q) → After (mostBefore + 1) (held (c .q .given .0 .0))
+after-all c = subst (λ (s : Step). Lands (λ (r : rule.Moment). After (mostBefore + 1) r) s) (c .q .given .1) (c .before .before .modified .ensures .1)
 
 time-value-requires : tie.Need-time-value-requires
 time-value-requires c κs = let d = c .before .before in (ltb-false 255 (length (bytesOf (valueOf (d .args .given) (now (d .args .value))))) (d .pre .0), clock-good (d .args .set) (d .pre .2))
@@ -57,7 +57,7 @@ enum-known-r-2 c = search needs
 
 returns : tie.Need-returns
 returns c = let d = c .before .before .before .before .before .before .before .before .before .before .before .before in
-    (c .ranged .ensures .0 .is ∙ sym (moment-is (d .args .set) (valueOf (d .args .given) (now (d .args .value))) (now (d .args .modifiers)) (sym (c .before .before .before .before .before .before .before .before .before .time-value .ensures .0) ∙ ap readOf (c .before .before .before .before .before .before .before .p .given .1)) (modified-as d (held (c .before .before .before .before .before .before .before .p .given .0 .0)) ∙ sym (c .before .before .before .before .modified .ensures .0) ∙ ap readOf (c .before .before .q .given .1))), lands-ready (c .ranged .result) (c .ranged .ensures .0 .after 16 (after-all (c .before .before))) (c .ranged .ensures .1))
+    (c .ranged .ensures .0 .is ∙ sym (moment-is (d .args .set) (valueOf (d .args .given) (now (d .args .value))) (now (d .args .modifiers)) (sym (c .before .before .before .before .before .before .before .before .before .time-value .ensures .0) ∙ ap readOf (c .before .before .before .before .before .before .before .p .given .1)) (modified-as d (held (c .before .before .before .before .before .before .before .p .given .0 .0)) ∙ sym (c .before .before .before .before .modified .ensures .0) ∙ ap readOf (c .before .before .q .given .1))), lands-ready (c .ranged .result) (c .ranged .ensures .0 .after (mostBefore + 1) (after-all (c .before .before))) (c .ranged .ensures .1))
 
 returns-2 : tie.Need-returns-2
 returns-2 c = let d = c .before .before .before .before .before .before .before .before .before .before .before in
