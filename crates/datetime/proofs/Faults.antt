@@ -16,13 +16,13 @@ use Rattle.rules.specs.declared.Function.{Function}
 use Rattle.rules.specs.declared.Given.{Given}
 use Rattle.rules.specs.declared.Setting.{Setting}
 use Rattle.rules.specs.declared.Refusal.{Refusal}
-use Rattle.modifiers.specs.Buffer.{faultOf}
+use Rattle.modifiers.specs.Buffer.{faultIn, faultOf}
 use Rattle.modifiers.specs.declared.buffer.Fault.{Fault}
 use Rattle.modifiers.specs.declared.buffer.Fault.the-variants as fault
 use Rattle.moment.proofs.Branches.{never}
 use Rattle.datetime.specs.declared.calls.Gate.{Gate}
 use Rattle.datetime.specs.declared.calls.Gate.the-variants as gate
-use Rattle.datetime.specs.Faults.{faultIn, eitherOf, gated}
+use Rattle.datetime.specs.Faults.{eitherOf, gated}
 
 -- ---- two at a time
 pub either-in : (s b t d : Bool) → eitherOf (faultIn s b) (faultIn t d) ≡ faultIn (s || t) (b || d)

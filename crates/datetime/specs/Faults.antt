@@ -1,5 +1,4 @@
 -- The refusals that are tested before anything is read, as the code's answers.
-use mathlib.Core.Bool.{Bool}
 use Rattle.rules.specs.Basics.{if_then_else_}
 use Rattle.rules.specs.Calls.{badSetting}
 use Rattle.rules.specs.declared.Setting.{Setting}
@@ -8,10 +7,6 @@ use Rattle.modifiers.specs.declared.buffer.Fault.{Fault}
 use Rattle.modifiers.specs.declared.buffer.Fault.the-variants as fault
 use Rattle.datetime.specs.declared.calls.Gate.{Gate}
 use Rattle.datetime.specs.declared.calls.Gate.the-variants as gate
-
--- refusal 2 before refusal 3
-abbrev pub faultIn : Bool → Bool → Fault
-faultIn shape bytes = if shape then fault.Shape else (if bytes then fault.Bytes else fault.Nothing)
 
 -- 2 of either before 3 of either
 abbrev pub eitherOf : Fault → Fault → Fault

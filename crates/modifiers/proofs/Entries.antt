@@ -15,7 +15,7 @@ use Rattle.rules.specs.Basics.{if_then_else_, every, onFirst, front, skip}
 use Rattle.rules.specs.Calls.{modifiers, lastEnded, over, modifiersBad, high}
 use Rattle.text.specs.Places.{part, Passed}
 use Rattle.text.proofs.Tests.{and-left, and-right}
-use Rattle.modifiers.specs.Buffer.{faultOf, isByte}
+use Rattle.modifiers.specs.Buffer.{faultIn, faultOf, isByte}
 use Rattle.modifiers.specs.declared.buffer.Fault.{Fault}
 use Rattle.modifiers.specs.declared.buffer.Fault.the-variants.{Shape, Bytes, Nothing}
 
@@ -109,7 +109,7 @@ bad-long n k b s h e = rw (modifiers-on b s h, too-long n k b (modifiers s) e) (
 
 -- the refusal, from a place on; h says whether a byte above 127 stands before it
 unfoldable pub faultFrom : Bool → ℕ → ℕ → List ℕ → Fault
-faultFrom h n k s = if badFrom n k s then Shape else (if h || high s then Bytes else Nothing)
+faultFrom h n k s = faultIn (badFrom n k s) (h || high s)
 
 pub fault-start : (s : List ℕ) → faultOf s ≡ faultFrom false 0 0 (drop 0 s)
 unfolding faultFrom

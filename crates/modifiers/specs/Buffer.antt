@@ -1,4 +1,4 @@
--- What refuses the modifiers' buffer before anything is read.
+-- What refuses a text, and the modifiers' buffer, before anything is read.
 use Prim.Native.Nat.{ℕ}
 use mathlib.Core.Bool.{Bool, not}
 use mathlib.Core.List.{List}
@@ -9,8 +9,11 @@ use Rattle.modifiers.specs.declared.buffer.Fault.{Fault}
 use Rattle.modifiers.specs.declared.buffer.Fault.the-variants.{Shape, Bytes, Nothing}
 
 -- refusal 2 before refusal 3
+abbrev pub faultIn : Bool → Bool → Fault
+faultIn shape bytes = if shape then Shape else (if bytes then Bytes else Nothing)
+
 abbrev pub faultOf : List ℕ → Fault
-faultOf s = if modifiersBad s then Shape else (if high s then Bytes else Nothing)
+faultOf s = faultIn (modifiersBad s) (high s)
 
 -- a byte of a modifier: any but the zero byte that ends it
 abbrev pub isByte : ℕ → Bool

@@ -7,7 +7,7 @@ use mathlib.Core.List.{List}
 use native.Mathlib.Omega.{arith}
 use Rattle.rules.specs.Basics.{if_then_else_}
 use Rattle.rules.specs.Calls.{modifiersBad, high}
-use Rattle.modifiers.specs.Buffer.{faultOf}
+use Rattle.modifiers.specs.Buffer.{faultIn, faultOf}
 use Rattle.modifiers.specs.declared.buffer.Fault.{Fault}
 use Rattle.modifiers.specs.declared.buffer.Fault.the-variants.{Shape, Bytes, Nothing}
 use borrow.Author.Needs.{needs}
@@ -19,7 +19,7 @@ isShape Shape = true
 isShape Bytes = false
 isShape Nothing = false
 
-good-shape : (bad many : Bool) → (if bad then Shape else (if many then Bytes else Nothing)) ≡ Nothing → bad ≡ false
+good-shape : (bad many : Bool) → faultIn bad many ≡ Nothing → bad ≡ false
 good-shape false many e = refl
 good-shape true many e = ap isShape e
 
