@@ -81,7 +81,8 @@ pub fn time_ms(hour: u32, minute: u32, second: f64) -> u64
     hour as u64 * 3600000 + minute as u64 * 60000 + real::seconds_ms(second)
 }
 
-// The instant of a date and a time of day in a zone. No zone, held as 1440 minutes, is 86400000 ms.
+// The instant of a date and a time of day in a zone. No zone, held as 1440 minutes, is 86400000 ms. It takes numbers, and has two callers: so
+// it stays a function, counting around it is inlined, and records stay in registers (docs/SPEED.md).
 fn instant(year: u32, month: u32, day: u32, hour: u32, minute: u32, second: f64, zone: u32) -> u64
     requires { ⌜ Countable year month day ⌝ ∗ ⌜ TimeIn hour minute true second zone ⌝ }
     ensures { λ r. ⌜ r ≡ instantOf year month day hour minute second zone ⌝ }
