@@ -1,5 +1,5 @@
 -- The answers of the lines of a block, as they stand in the output.
-use Prim.Native.Nat.{ℕ, _≤_}
+use Prim.Native.Nat.{ℕ, _-_, _≤_, _<_}
 use mathlib.Core.Bool.{Bool, not}
 use mathlib.Core.Path.{_≡_}
 use mathlib.Core.List.{List, [], _∷_, _++_}
@@ -40,11 +40,35 @@ ended set (s ∷ t ∷ ss) = lineText set s ++ ended set (t ∷ ss)
 abbrev pub endedFrom : Setting → List ℕ → ℕ → List ℕ
 endedFrom set block at = ended set (parts isNewline (drop at block))
 
--- the lines of a block from `at` on are answered up to the place p: `done` is laid, and what is left are the answers of the lines from p on
-pub record Answers (set : Setting) (block : List ℕ) (at used : ℕ) (old new : List ℕ) (p : Place) : Type 0 where
+-- that last line, or what of it stands in the block
+unfoldable pub lastOf : List (List ℕ) → List ℕ
+lastOf [] = []
+lastOf (s ∷ []) = s
+lastOf (s ∷ t ∷ ss) = lastOf (t ∷ ss)
+
+abbrev pub lastFrom : List ℕ → ℕ → List ℕ
+lastFrom block at = lastOf (parts isNewline (drop at block))
+
+-- the same of a block whose first line began earlier: k is kept of it
+abbrev pub onto : List ℕ → List (List ℕ) → List (List ℕ)
+onto k [] = k ∷ []
+onto k (s ∷ ss) = (k ++ s) ∷ ss
+
+abbrev pub lastAfter : List ℕ → List ℕ → List ℕ
+lastAfter k block = lastOf (onto k (parts isNewline block))
+
+-- the lines of a block from `at` on are answered up to the place p: `done` is laid, and what is left are the answers of the lines from p on, and the
+-- same last line
+pub record Answered (set : Setting) (block : List ℕ) (at used : ℕ) (old new : List ℕ) (p : Place) : Type 0 where
   pub done : List ℕ
   pub laid : Laid old used done new (p .used)
   pub left : endedFrom set block at ≡ done ++ endedFrom set block (p .at)
+  pub last : lastFrom block at ≡ lastFrom block (p .at)
   pub on : at ≤ p .at
   pub inside : p .at ≤ length block
   pub used-inside : p .used ≤ length new
+
+-- and as far as they can be: where an answer with its newline still has room, no line ends from p on
+pub record Answers (set : Setting) (block : List ℕ) (at used : ℕ) (old new : List ℕ) (p : Place) : Type 0 where
+  pub answered : Answered set block at used old new p
+  pub stops : 16384 < length new - p .used → endedFrom set block (p .at) ≡ []

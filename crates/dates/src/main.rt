@@ -7,11 +7,11 @@
 ghost use mathlib.Core.Path.{_≡_};
 ghost use Prim.Native.Nat.{_+_, _-_, _≤_, _<_};
 ghost use lib.Dec.{ltb};
-ghost use lib.ListN.{length};
+ghost use lib.ListN.{length, take};
 ghost use Rattle.text.specs.Places.{Passed};
 ghost use Rattle.digits.specs.Writers.{Room, Laid};
-ghost use Rattle.dates.specs.Answers.{inLine, textLength, lineText, Answers};
-ghost use Rattle.dates.specs.Buffers.{Within, Same, HasRoom};
+ghost use Rattle.dates.specs.Answers.{inLine, textLength, lineText, lastFrom, lastAfter, Answers};
+ghost use Rattle.dates.specs.Buffers.{Within, Same, HasRoom, Keeps, Holds};
 use lines::First;
 use rules::Answer;
 use rules::Setting;
@@ -142,6 +142,7 @@ struct Run {
 fn take(t: Run, block: &[u8], kept: &mut [u8], room: &mut [u8; 8192], out: &mut [u8]) -> Run
     requires { ⌜ Within t (now kept) (now out) ⌝ }
     ensures { λ r. ⌜ Within r (now (kept .exit)) (now (out .exit)) ⌝ }
+    ensures { λ r. ⌜ Holds r (now (kept .exit)) (lastAfter (take (t .have) (now (kept .entry))) (now (block .entry))) ⌝ }
 {
     if t.begun {
         if t.have == 0 {
@@ -169,6 +170,7 @@ fn take_from(
 ) -> Run
     requires { ⌜ Within t (now kept) (now out) ⌝ ∗ ⌜ from ≤ length (now block) ⌝ }
     ensures { λ r. ⌜ Within r (now (kept .exit)) (now (out .exit)) ⌝ }
+    ensures { λ r. ⌜ Holds r (now (kept .exit)) (lastFrom (now (block .entry)) from) ⌝ }
 {
     let mut r = t;
     let mut at = from;
@@ -191,7 +193,7 @@ fn take_from(
 // Keeps a part of a line after what is kept of it, as far as there is room.
 fn keep(kept: &mut [u8], have: usize, part: &[u8]) -> usize
     requires { ⌜ have ≤ length (now kept) ⌝ }
-    ensures { λ r. ⌜ r ≤ length (now (kept .exit)) ⌝ }
+    ensures { λ r. ⌜ Keeps (now (kept .entry)) have (now (part .entry)) (now (kept .exit)) r ⌝ }
 {
     let mut i = 0;
     while i < part.len() {

@@ -6,13 +6,13 @@ use lib.ListN.{length}
 use borrow.Author.Needs.{needs}
 use borrow.Author.Tests.{ltb-true}
 use Rattle.digits.proofs.Buffer.{laid-length}
-use Rattle.dates.specs.Answers.{Answers}
-use Rattle.dates.proofs.Ended.{passed-on, answers-start, answers-on}
+use Rattle.dates.specs.Answers.{Answered}
+use Rattle.dates.proofs.Ended.{passed-on, answers-start, answers-on, answers-all, answers-full}
 use Rattle.dates.proofs.answer_lines.Statement.{statement}
 use Rattle.dates.proofs.answer_lines.Tie as tie
 
 abbrev Inv-loop : tie.InvT-loop
-Inv-loop set block at room₀ out₀ used from₀ next₀ room out from next = Answers set block at used out₀ out (record { at = from; used = next })
+Inv-loop set block at room₀ out₀ used from₀ next₀ room out from next = Answered set block at used out₀ out (record { at = from; used = next })
 
 abbrev μ-loop : tie.MeasureT-loop
 μ-loop set block at room₀ out₀ used from₀ next₀ room out from next = length block - from
@@ -30,7 +30,7 @@ same-length : tie.Need-same-length Inv-loop μ-loop
 same-length c = laid-length (c .before .before .before .before .before .loop .inv .laid)
 
 returns : tie.Need-returns Inv-loop μ-loop
-returns c = c .before .before .before .before .before .loop .inv
+returns c = answers-all (c .before .before .before .before .before .loop .inv) (c .before .line-end .ensures) (c .if2 .taken)
 
 sub-put-line : tie.Need-sub-put-line Inv-loop μ-loop
 sub-put-line c = passed-on (c .before .line-end .ensures)
@@ -57,7 +57,7 @@ same-length-2 : tie.Need-same-length-2 Inv-loop μ-loop
 same-length-2 c = laid-length (c .before .before .before .loop .inv .laid)
 
 returns-2 : tie.Need-returns-2 Inv-loop μ-loop
-returns-2 c = c .before .before .before .loop .inv
+returns-2 c = answers-full (c .before .before .before .loop .inv) (c .before .has-room .ensures) (c .if1 .left)
 
 pub answer-lines-spec : {M : Type 1} → statement M
 answer-lines-spec =

@@ -1,20 +1,22 @@
--- `dates::keep` meets its contract. The loop's invariant: what is kept lies within the buffer. Assumes nothing.
+-- `dates::keep` meets its contract. The loop's invariant: what is kept lies within the buffer, and is what was kept and the part up to here. Assumes nothing.
 use Prim.Native.Nat.{_+_, _-_, _≤_}
 use mathlib.Core.Path.{_≡_, refl}
 use native.Mathlib.Omega.{arith}
 use lib.ListN.{length, length-set}
 use borrow.Author.Needs.{needs}
+use denote.Ref.{now}
+use Rattle.dates.proofs.Keeping.{KeptTo, kept-start, kept-on, kept-full, kept-all}
 use Rattle.dates.proofs.keep.Statement.{statement}
 use Rattle.dates.proofs.keep.Tie as tie
 
 abbrev Inv-loop : tie.InvT-loop
-Inv-loop kept₀ have part i₀ kept i = (length kept ≡ length kept₀) × (have + i ≤ length kept₀) × (i ≤ length part)
+Inv-loop kept₀ have part i₀ kept i = (length kept ≡ length kept₀) × (have + i ≤ length kept₀) × (i ≤ length part) × KeptTo kept₀ have part kept i
 
 abbrev μ-loop : tie.MeasureT-loop
 μ-loop kept₀ have part i₀ kept i = length part - i
 
 loop-holds : tie.Need-loop-holds Inv-loop μ-loop
-loop-holds c = (refl, omega arith, omega arith)
+loop-holds c = (refl, omega arith, omega arith, kept-start (now (c .args .kept)) (now (c .args .part)) (c .args .have))
 
 add-if1 : tie.Need-add-if1 Inv-loop μ-loop
 add-if1 c = search needs
@@ -26,7 +28,7 @@ same-length : tie.Need-same-length Inv-loop μ-loop
 same-length c = c .before .before .loop .inv .0
 
 returns : tie.Need-returns Inv-loop μ-loop
-returns c = omega arith
+returns c = kept-full _ _ _ _ _ (c .before .before .loop .inv .3) (c .before .before .before .pre) (omega arith)
 
 shared-slice-read-kept : tie.Need-shared-slice-read-kept Inv-loop μ-loop
 shared-slice-read-kept c = search needs
@@ -44,7 +46,7 @@ loop-less : tie.Need-loop-less Inv-loop μ-loop
 loop-less c = search needs
 
 loop-again : tie.Need-loop-again Inv-loop μ-loop
-loop-again c = (simp length-set (c .before .before .before .loop .inv .0), omega arith, omega arith)
+loop-again c = (simp length-set (c .before .before .before .loop .inv .0), omega arith, omega arith, kept-on _ _ _ _ _ (c .before .before .before .loop .inv .3) (c .before .if1 .left) (c .before .before .loop-test .taken))
 
 add-result-2 : tie.Need-add-result-2 Inv-loop μ-loop
 add-result-2 c = search needs
@@ -53,7 +55,7 @@ same-length-2 : tie.Need-same-length-2 Inv-loop μ-loop
 same-length-2 c = c .before .loop .inv .0
 
 returns-2 : tie.Need-returns-2 Inv-loop μ-loop
-returns-2 c = omega arith
+returns-2 c = kept-all _ _ _ _ _ (c .before .loop .inv .3) (c .before .before .pre) (omega arith) (c .loop-test .left)
 
 pub keep-spec : {M : Type 1} → statement M
 keep-spec =
