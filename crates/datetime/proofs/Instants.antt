@@ -5,12 +5,11 @@ use mathlib.Core.List.{List}
 use Prim.Native.Nat.{ℕ, _≤_}
 use borrow.Author.Tests.{ltb-false}
 use lib.ListN.{length}
-use Rattle.rules.specs.Basics.{Read, got, other, refuse, _>>=_}
-use Rattle.rules.specs.Calls.{Value, valueOf, bytesOf, over, timediff, Outcome, text}
-use Rattle.rules.specs.Functions.{present, ranged, reading}
+use Rattle.rules.specs.Basics.{got, refuse}
+use Rattle.rules.specs.Calls.{Value, valueOf, bytesOf, over}
+use Rattle.rules.specs.Functions.{present, ranged}
 use Rattle.rules.specs.Moments.{Moment, countMs}
 use Rattle.rules.specs.Reading.{timeValue}
-use Rattle.rules.specs.Writing.{difference}
 use Rattle.rules.specs.declared.Given.{Given}
 use Rattle.rules.specs.declared.Refusal.{Refusal}
 use Rattle.rules.specs.declared.Setting.{Setting}
@@ -66,26 +65,3 @@ module _ (set : Setting) (a b : Value) where
   pub no-first : {x : Refusal} → timeValue (set .clock) (present a) ≡ refuse x → instants set a b ≡ refuse x
   unfolding instants
   no-first e = rw e
-
--- ---- and timediff's text of them
-abbrev pub differenceOf : ℕ × ℕ → Read Outcome
-differenceOf t = got (text (difference (t .0) (t .1)))
-
-ranges-text : (r s : Read Moment) → _>>=_ r (λ p. _>>=_ s (λ q. got (text (difference (p .ms) (q .ms))))) ≡ _>>=_ (_>>=_ r (λ p. _>>=_ s (λ q. got (p .ms, q .ms)))) differenceOf
-ranges-text (got p) (got q) = refl
-ranges-text (got p) other = refl
-ranges-text (got p) (refuse x) = refl
-ranges-text other s = refl
-ranges-text (refuse x) s = refl
-
-values-text : (r s : Read Moment) → _>>=_ r (λ p. _>>=_ s (λ q. _>>=_ (ranged p) (λ p. _>>=_ (ranged q) (λ q. got (text (difference (p .ms) (q .ms))))))) ≡ _>>=_ (_>>=_ r (λ p. _>>=_ s (λ q. rangedBoth p q))) differenceOf
-unfolding rangedBoth
-values-text (got p) (got q) = ranges-text (ranged p) (ranged q)
-values-text (got p) other = refl
-values-text (got p) (refuse x) = refl
-values-text other s = refl
-values-text (refuse x) s = refl
-
-pub reading-timediff : (set : Setting) (a b : Value) → reading set (timediff a b) ≡ _>>=_ (instants set a b) differenceOf
-unfolding reading instants
-reading-timediff set a b = values-text (timeValue (set .clock) (present a)) (timeValue (set .clock) (present b))

@@ -2,7 +2,7 @@
 use mathlib.Core.Path.{_≡_}
 use mathlib.Core.List.{List}
 use Prim.Native.Nat.{ℕ, _+_}
-use Rattle.rules.specs.Basics.{Read, got, refuse}
+use Rattle.rules.specs.Basics.{got, refuse}
 use Rattle.rules.specs.Calls.{Value, modifiers}
 use Rattle.rules.specs.Functions.{momentOf, ranged}
 use Rattle.rules.specs.Modifiers.{modified}

@@ -1,23 +1,20 @@
 -- What each modifier's step of the rules gives, case by case, with the milliseconds moved so far one way or the other. Assumes nothing.
 use mathlib.Core.Bool.{Bool, true, false, not, _&&_}
-use mathlib.Core.List.{List, [], _∷_}
+use mathlib.Core.List.{[]}
 use mathlib.Core.Path.{_≡_, refl, sym, ap, _∙_}
 use Prim.Native.Nat.{ℕ, _+_, _-_, _*_, _/_, _%_, _≤_, _<_}
 use native.Mathlib.Nat.{mul-one}
 use borrow.Author.Tests.{leb-true, not-true, le-leb, lt-leb, lt-ltb, le-ltb}
 use lib.Dec.{leb, ltb}
 use lib.IntN.{ℤ, pos, negℤ, _*ℤ_}
-use lib.Ieee.{Float}
 use Rattle.rules.specs.Basics.{if_then_else_, got, refuse, move}
 use Rattle.rules.specs.Calendar.{year, instant, last, inRange, dayLength}
-use Rattle.rules.specs.Floats.{below}
 use Rattle.rules.specs.Functions.{ranged, renewed}
 use Rattle.rules.specs.Moments.{Moment, clear, counted, moved, setMs, setDate, setCounted, setDated, setOver, setRaw, setUtc, setLocal, countMs, fill, shift}
-use Rattle.rules.specs.Modifiers.{signed, atMs, fromEpoch, isAuto, auto, julian, isUnix, unix, floor, localtime, utc, daysOn, toWeekday, provided, unitMs, byLength, byMonths}
+use Rattle.rules.specs.Modifiers.{signed, atMs, fromEpoch, isAuto, auto, julian, isUnix, unix, floor, localtime, utc, daysOn, toWeekday}
 use Rattle.rules.specs.declared.Refusal.{Refusal}
 use Rattle.real.proofs.Tests.{and-left, and-right}
 use Rattle.moment.specs.Ranges.{Ranged}
-use Rattle.moment.specs.Steps.{lengthOn, monthsOn}
 use Rattle.moment.proofs.Branches.{never, branch-false}
 use Rattle.moment.proofs.Steps.{count-cases}
 use Rattle.moment.proofs.Ways.{move-back, move-times, move-product, neg-signed}
@@ -179,16 +176,3 @@ renew p h = go (p .dated) refl
     go : (b : Bool) → p .dated ≡ b → fill (setDated p false) ≡ fill (if b && ltb 28 (p .day) then setDated p false else p)
     go true e = rw (lt-ltb 28 (p .day) h)
     go false e = ap (λ (b : Bool). fill (setDated p b)) (sym e)
-
-pub renew-modified : (b : ℕ) (m : List ℕ) (p : Moment) → renewed (b ∷ m) p ≡ fill p
-unfolding renewed
-renew-modified b m p = refl
-
--- ---- `N unit` within its limit
-pub length-provided : (limit unit n : Float) (p : Moment) → byLength limit unit n p ≡ provided (below n limit) (lengthOn (unitMs unit n) p)
-unfolding byLength
-length-provided limit unit n p = refl
-
-pub months-provided : (limit : Float) (k : ℕ) (days n : Float) (p : Moment) → byMonths limit k days n p ≡ provided (below n limit) (monthsOn k days n p)
-unfolding byMonths
-months-provided limit k days n p = refl

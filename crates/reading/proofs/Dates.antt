@@ -6,7 +6,7 @@ use mathlib.Core.List.{List, [], _∷_}
 use native.Mathlib.Omega.{arith}
 use borrow.Author.Tests.{eqb-true}
 use lib.ListN.{length, drop, length-drop}
-use Rattle.rules.specs.Basics.{if_then_else_, Read, got, other, _>>=_, _or_, byte, digits, digitsOn, skip}
+use Rattle.rules.specs.Basics.{if_then_else_, got, other, _>>=_, _or_, byte, digits, digitsOn, skip}
 use Rattle.rules.specs.Calendar.{year, minusYear}
 use Rattle.rules.specs.Moments.{Moment, blank, setTime, setTimed, setZone, setUtc, setDate, setDated, pastEnd}
 use Rattle.rules.specs.Reading.{time, timed, timeAfter, settled, dateFrom, dateForm, timeForm}

@@ -1,7 +1,7 @@
 -- Reading, one thing after another: each law turns what a function of the code answered into the rule's equation, for `rw`. Assumes nothing.
 use Prim.Native.Nat.{ℕ, _+_, _≤_, _<_}
 use Prim.Native.Char.{Char, code}
-use mathlib.Core.Bool.{Bool, true, false, true≢false}
+use mathlib.Core.Bool.{true, false, true≢false}
 use mathlib.Core.Path.{_≡_, refl, ap, sym, _∙_}
 use mathlib.Core.List.{List, [], _∷_}
 use native.Mathlib.Decide.{decLe}
@@ -10,10 +10,9 @@ use native.Mathlib.Omega.{arith}
 use lib.Dec.{eqb}
 use lib.ListN.{length, getD, drop, drop-of-length-le}
 use lib.Seq.{drop-cons}
-use borrow.Author.Tests.{eqb-true, eq-eqb}
-use Rattle.rules.specs.Basics.{Read, got, other, refuse, _>>=_, _or_, onlyIf, ended, byte, past}
-use Rattle.rules.specs.declared.Refusal.{Refusal}
-use Rattle.text.specs.Places.{found, Limits, Told, begins, stands, leads}
+use borrow.Author.Tests.{eqb-true}
+use Rattle.rules.specs.Basics.{Read, got, other, _>>=_, _or_, ended, byte}
+use Rattle.text.specs.Places.{found, Limits, Told, begins, stands}
 use Rattle.text.specs.declared.Found.{Found}
 use Rattle.text.specs.declared.Found.the-variants.{Number}
 
@@ -25,9 +24,6 @@ module _ {A B : Type 0} {r : Read A} (f : A → Read B) where
   pub bind-other : r ≡ other → _>>=_ r f ≡ other
   bind-other h = rw h
 
-  pub bind-refuse : {x : Refusal} → r ≡ refuse x → _>>=_ r f ≡ refuse x
-  bind-refuse h = rw h
-
 module _ {A : Type 0} {r : Read A} (q : Read A) where
   pub or-got : {a : A} → r ≡ got a → (r or q) ≡ got a
   or-got h = rw h
@@ -35,21 +31,8 @@ module _ {A : Type 0} {r : Read A} (q : Read A) where
   pub or-other : r ≡ other → (r or q) ≡ q
   or-other h = rw h
 
-  pub or-refuse : {x : Refusal} → r ≡ refuse x → (r or q) ≡ refuse x
-  or-refuse h = rw h
-
-module _ {A : Type 0} {t : Bool} (a : A) where
-  pub only-got : t ≡ true → onlyIf t a ≡ got a
-  only-got h = rw h
-
-  pub only-other : t ≡ false → onlyIf t a ≡ other
-  only-other h = rw h
-
 -- ---- the end of a text
 module _ {A : Type 0} (s : List ℕ) (at : ℕ) (a : A) where
-  pub ended-got : length s ≤ at → ended (drop at s) a ≡ got a
-  ended-got h = rw (drop-of-length-le s h)
-
   pub ended-other : at < length s → ended (drop at s) a ≡ other
   ended-other h = rw (drop-cons s at 0 h)
 
@@ -82,22 +65,9 @@ module _ (b : ℕ) (s : List ℕ) (at : ℕ) where
       rw (drop-cons s at 0 (stands-inside h), add-one, e)
 
 module _ (c : Char) (s : List ℕ) (at : ℕ) where
-  pub byte-got : stands (code c) s at ≡ true → byte c (drop at s) ≡ got (drop (at + 1) s)
-  byte-got h = rw (stands-cons (code c) s at h, eq-eqb (code c) (code c) refl)
-
   pub byte-other : stands (code c) s at ≡ false → byte c (drop at s) ≡ other
   byte-other h = front (drop at s) h
     where
       front : (l : List ℕ) → begins (code c) l ≡ false → byte c l ≡ other
       front [] e = refl
       front (b ∷ l) e = rw e
-
--- ---- a word: of `starts`
-module _ (w s : List ℕ) where
-  pub past-got : leads w s ≡ true → past w s ≡ got (drop (length w) s)
-  unfolding leads
-  past-got h = rw h
-
-  pub past-other : leads w s ≡ false → past w s ≡ other
-  unfolding leads
-  past-other h = rw h

@@ -16,10 +16,6 @@ pub front-past : (f : ℕ → Bool) (s : List ℕ) (i : ℕ) → length s ≤ i 
 unfolding front
 front-past f s i h = rw (drop-of-length-le s h)
 
-pub skip-past : (f : ℕ → Bool) (s : List ℕ) (i : ℕ) → length s ≤ i → skip f (drop i s) ≡ []
-unfolding skip
-skip-past f s i h = rw (drop-of-length-le s h)
-
 pub every-past : (f : ℕ → Bool) (s : List ℕ) (i : ℕ) → length s ≤ i → every f (drop i s) ≡ true
 unfolding every
 every-past f s i h = rw (drop-of-length-le s h)
@@ -32,14 +28,6 @@ module _ (f : ℕ → Bool) (s : List ℕ) (i : ℕ) (h : i < length s) where
   pub front-stop : f (getD s i 0) ≡ false → front f (drop i s) ≡ []
   unfolding front
   front-stop e = rw (drop-cons s i 0 h, e)
-
-  pub skip-on : f (getD s i 0) ≡ true → skip f (drop i s) ≡ skip f (drop (i + 1) s)
-  unfolding skip
-  skip-on e = rw (add-one, drop-cons s i 0 h, e)
-
-  pub skip-stop : f (getD s i 0) ≡ false → skip f (drop i s) ≡ drop i s
-  unfolding skip
-  skip-stop e = rw (drop-cons s i 0 h, e)
 
   pub every-on : f (getD s i 0) ≡ true → every f (drop i s) ≡ every f (drop (i + 1) s)
   unfolding every

@@ -10,7 +10,7 @@ use native.Mathlib.Omega.{arith}
 use lib.Dec.{eqb}
 use lib.ListN.{length, getD, take, drop, drop-of-length-le}
 use lib.Seq.{drop-cons, take-all}
-use Rattle.rules.specs.Basics.{lower, word, got, other, beside}
+use Rattle.rules.specs.Basics.{lower, word}
 use Rattle.text.specs.Places.{leads}
 use Rattle.text.proofs.Tests.{and-false}
 
@@ -53,17 +53,3 @@ module _ (w s : List ℕ) (i : ℕ) (h : i < length w) (k : i < length s) where
   pub ahead-stop : eqb (getD w i 0) (lower (getD s i 0)) ≡ false → ahead w s i ≡ false
   unfolding word
   ahead-stop e = rw (left-is, drop-cons w i 0 h, drop-cons s i 0 k, e)
-
--- ---- a table of words, row by row
-module _ {A : Type 0} (row : List ℕ × A) (rows : List (List ℕ × A)) (s : List ℕ) where
-  pub beside-got : word (row .0) s ≡ true → beside (row ∷ rows) s ≡ got (row .1)
-  unfolding beside
-  beside-got h = rw h
-
-  pub beside-next : word (row .0) s ≡ false → beside (row ∷ rows) s ≡ beside rows s
-  unfolding beside
-  beside-next h = rw h
-
-pub beside-none : {A : Type 0} (s : List ℕ) → beside {A = A} [] s ≡ other
-unfolding beside
-beside-none s = refl

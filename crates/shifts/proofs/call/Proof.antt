@@ -5,7 +5,6 @@ use mathlib.Core.Path.{_≡_, refl, sym, ap, _∙_}
 use mathlib.Core.Bool.{Bool, true, false}
 use mathlib.Core.List.{List}
 use native.Mathlib.Omega.{arith}
-use Rattle.rules.specs.Basics.{if_then_else_}
 use Rattle.rules.specs.Calls.{modifiersBad, high}
 use Rattle.modifiers.specs.Buffer.{faultIn, faultOf}
 use Rattle.modifiers.specs.declared.buffer.Fault.{Fault}
