@@ -5,11 +5,11 @@ use mathlib.Core.Path.{_≡_, refl, sym, ap, _∙_}
 use mathlib.Core.List.{List, [], _∷_, _++_, append-assoc, append-nil}
 use native.Mathlib.Numerals.{add-one}
 use native.Mathlib.Omega.{arith}
-use lib.Dec.{ltb, leb}
+use lib.Dec.{ltb}
 use lib.ListN.{length, take, drop, drop-of-length-le, length-append, take-append-drop}
 use lib.Seq.{drop-cons}
 use borrow.Author.Tests.{ltb-false}
-use Rattle.rules.specs.Basics.{if_then_else_, ascii, parts, onFirst, front, skip}
+use Rattle.rules.specs.Basics.{if_then_else_, parts, onFirst, front, skip}
 use Rattle.rules.specs.Program.{line}
 use Rattle.rules.specs.declared.Setting.{Setting}
 use Rattle.text.specs.Places.{part, Passed}
@@ -115,7 +115,7 @@ not-empty : (s t : List ℕ) (b : ℕ) → (s ++ b ∷ []) ++ t ≡ [] → ⊥
 not-empty s t b e = omega (arith, ap length e, length-append (s ++ b ∷ []) t, length-append s (b ∷ []))
 
 answer-not-empty : (set : Setting) (s t : List ℕ) → lineText set s ++ t ≡ [] → ⊥
-answer-not-empty set s t e = not-empty (if leb (length (line set s)) 16384 then line set s else ascii "refused 7") t 10 e
+answer-not-empty set s t e = not-empty (line set s) t 10 e
 
 front-all : (l : List ℕ) → skip inLine l ≡ [] → front inLine l ≡ l
 front-all l e = sym (append-nil (front inLine l)) ∙ ap (λ (x : List ℕ). front inLine l ++ x) (sym (drop-front inLine l ∙ e)) ∙ ap (λ (x : List ℕ). x ++ drop (length (front inLine l)) l) (sym (take-front inLine l)) ∙ take-append-drop (length (front inLine l)) l

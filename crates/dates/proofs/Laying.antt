@@ -1,22 +1,22 @@
 -- Texts laid in the output's buffer. Assumes nothing.
 use Prim.Native.Nat.{ℕ, suc, _+_, _-_, _≤_, _<_}
-use mathlib.Core.Bool.{Bool, true, false}
-use mathlib.Core.Path.{_≡_, refl, sym, ap, _∙_}
+use mathlib.Core.Bool.{true}
+use mathlib.Core.Path.{_≡_, sym, ap, _∙_}
 use mathlib.Core.List.{List, [], _∷_, _++_, append-assoc}
 use native.Mathlib.Numerals.{add-one}
 use native.Mathlib.Omega.{arith}
 use lib.Dec.{leb}
 use lib.ListN.{length, getD, set, take, drop, drop-of-length-le, length-append, length-drop, take-append-drop}
 use lib.Seq.{sets, sets-eq, drop-cons, drop-drop, drop-append-le, length-take-le}
-use borrow.Rule.Slice.PartMut.{midOf, putMid, put-same}
-use borrow.Author.Tests.{leb-true}
-use Rattle.rules.specs.Basics.{if_then_else_}
+use borrow.Rule.Slice.PartMut.{midOf, putMid}
+use borrow.Author.Tests.{le-leb}
 use Rattle.rules.specs.Calls.{text, answered, after}
 use Rattle.rules.specs.Program.{line}
 use Rattle.rules.specs.declared.Answer.{Answer}
 use Rattle.rules.specs.declared.Setting.{Setting}
 use Rattle.digits.specs.Writers.{Laid}
 use Rattle.digits.proofs.Buffer.{laid-then, laid-length}
+use Rattle.lines.proofs.Short.{line-short}
 use Rattle.dates.specs.Answers.{textLength, lineText}
 
 -- byte by byte: one step at a place, and the end
@@ -36,55 +36,33 @@ mid-laid out t used k h f =
     let rest : drop (length t) (take k l) ++ drop k l ≡ drop (used + length t) out = sym (drop-append-le (length t) (take k l) (drop k l) few) ∙ ap (λ (x : List ℕ). drop (length t) x) (take-append-drop k l) ∙ drop-drop (length t) used out in
     ap (λ (x : List ℕ). take used out ++ x) (append-assoc t (drop (length t) (take k l)) (drop k l) ∙ ap (λ (x : List ℕ). t ++ x) rest) ∙ sym (append-assoc (take used out) t (drop (used + length t) out)) ∙ sym (sets-eq t out used (omega arith))
 
--- ---- whether a text found room, by the length that is told
-module _ (t : List ℕ) {a : Answer} {n : ℕ} (e : a ≡ answered (text t) 16384) (k : n ≡ textLength a) where
-  line-fits : n ≤ 16384 → (leb (length t) 16384 ≡ true) × (n ≡ length t)
-  unfolding answered
-  line-fits h = go (leb (length t) 16384) refl (k ∙ ap textLength e)
-    where
-      go : (b : Bool) → leb (length t) 16384 ≡ b → n ≡ textLength (if b then Answer.Text (length t) else Answer.NoRoom (length t)) → (leb (length t) 16384 ≡ true) × (n ≡ length t)
-      go true p q = (p, q)
-      go false p q = absurd (omega arith)
-
-  line-over : 16384 < n → leb (length t) 16384 ≡ false
-  unfolding answered
-  line-over h = go (leb (length t) 16384) refl (k ∙ ap textLength e)
-    where
-      go : (b : Bool) → leb (length t) 16384 ≡ b → n ≡ textLength (if b then Answer.Text (length t) else Answer.NoRoom (length t)) → leb (length t) 16384 ≡ false
-      go true p q = absurd (omega (arith, leb-true (length t) 16384 p))
-      go false p q = p
-
--- ---- a line's answer, and its newline
+-- ---- a line's answer, which finds room, and its newline
 module _ (set : Setting) (s out ys : List ℕ) (used k : ℕ) (e : k ≡ 16384) (room : 16384 < length out - used) {a : Answer} {n : ℕ} (p : a ≡ answered (text (line set s)) (length (midOf used k out))) (q : ys ≡ after (text (line set s)) (midOf used k out)) (l : n ≡ textLength a) where
   mid-length : length (midOf used k out) ≡ 16384
   mid-length = length-take-le k (drop used out) (rw (length-drop used out) (omega arith)) ∙ e
 
-  answer-is : a ≡ answered (text (line set s)) 16384
-  answer-is = p ∙ ap (answered (text (line set s))) mid-length
+  fits : leb (length (line set s)) (length (midOf used k out)) ≡ true
+  fits = rw mid-length (le-leb (length (line set s)) 16384 (line-short set s))
 
-  short : {t new : List ℕ} {r : ℕ} → length t ≤ 16385 → Laid out used t new r → r ≤ length new
-  short h x = omega (arith, x .place, laid-length x)
+  told : textLength (answered (text (line set s)) (length (midOf used k out))) ≡ length (line set s)
+  unfolding answered
+  told = rw fits
 
-  pub line-laid : {new : List ℕ} {r : ℕ} → n ≤ 16384 → Laid (putMid used k out ys) (used + n) (10 ∷ []) new r → Laid out used (lineText set s) new r × (r ≤ length new)
+  line-length : n ≡ length (line set s)
+  line-length = l ∙ ap textLength p ∙ told
+
+  pub line-room : n ≤ 16384
+  line-room = rw line-length (line-short set s)
+
+  pub line-laid : {new : List ℕ} {r : ℕ} → Laid (putMid used k out ys) (used + n) (10 ∷ []) new r → Laid out used (lineText set s) new r × (r ≤ length new)
   unfolding after
-  line-laid h x =
+  line-laid x =
       let t = line set s in
-      let f = line-fits t answer-is l h in
-      let y : ys ≡ t ++ drop (length t) (midOf used k out) = q ∙ rw (mid-length, f .0) in
-      let few = leb-true (length t) 16384 (f .0) in
+      let y : ys ≡ t ++ drop (length t) (midOf used k out) = q ∙ rw fits in
+      let few = line-short set s in
       let first : Laid out used t (putMid used k out ys) (used + n) = record {
-        place = ap (λ (m : ℕ). used + m) (f .1);
+        place = ap (λ (m : ℕ). used + m) line-length;
         bytes = ap (putMid used k out) y ∙ mid-laid out t used k (omega arith) (omega arith);
       } in
       let both : Laid out used (t ++ (10 ∷ [])) _ _ = laid-then first x in
-      rw (f .0) (both, short (omega (arith, length-append t (10 ∷ []))) both)
-
-  pub refused-laid : {new : List ℕ} {r : ℕ} → 16384 < n → Laid (putMid used k out ys) used (114 ∷ 101 ∷ 102 ∷ 117 ∷ 115 ∷ 101 ∷ 100 ∷ 32 ∷ 55 ∷ 10 ∷ []) new r → Laid out used (lineText set s) new r × (r ≤ length new)
-  unfolding after
-  refused-laid h x =
-      let t = line set s in
-      let f = line-over t answer-is l h in
-      let w : ys ≡ midOf used k out = q ∙ rw (mid-length, f) in
-      let y : putMid used k out ys ≡ out = ap (putMid used k out) w ∙ put-same used k out in
-      let z = rw y at x in
-      rw f (z, short (omega arith) z)
+      (both, omega (arith, length-append t (10 ∷ []), both .place, laid-length both))

@@ -3,9 +3,9 @@ use Prim.Native.Nat.{ℕ, _-_, _≤_, _<_}
 use mathlib.Core.Bool.{Bool, not}
 use mathlib.Core.Path.{_≡_}
 use mathlib.Core.List.{List, [], _∷_, _++_}
-use lib.Dec.{eqb, leb}
+use lib.Dec.{eqb}
 use lib.ListN.{length, drop}
-use Rattle.rules.specs.Basics.{if_then_else_, ascii, parts}
+use Rattle.rules.specs.Basics.{ascii, parts}
 use Rattle.rules.specs.Program.{line}
 use Rattle.rules.specs.declared.Answer.{Answer}
 use Rattle.rules.specs.declared.Setting.{Setting}
@@ -19,17 +19,17 @@ isNewline b = eqb b 10
 abbrev pub inLine : ℕ → Bool
 inLine b = not (isNewline b)
 
--- how many bytes a text has, where it found room in 16,384
+-- how many bytes a text has that found room
 abbrev pub textLength : Answer → ℕ
 textLength (Answer.Text n) = n
-textLength (Answer.Integer n) = 16385
-textLength (Answer.Real x) = 16385
-textLength (Answer.Refused r) = 16385
-textLength (Answer.NoRoom n) = 16385
+textLength (Answer.Integer n) = 0
+textLength (Answer.Real x) = 0
+textLength (Answer.Refused r) = 0
+textLength (Answer.NoRoom n) = 0
 
--- "its buffer [is] 16,384 bytes": a line's answer in it, and its newline
+-- a line's answer, and its newline
 abbrev pub lineText : Setting → List ℕ → List ℕ
-lineText set s = (if leb (length (line set s)) 16384 then line set s else ascii "refused 7") ++ ascii "\n"
+lineText set s = line set s ++ ascii "\n"
 
 -- the answers of all lines but the last, which goes on in the next block
 unfoldable pub ended : Setting → List (List ℕ) → List ℕ

@@ -78,7 +78,7 @@ module _ (t : ℕ) (low : instant 0 ≤ t) (high : t ≤ last) where
       go (negsuc n) h = unfold integerText in omega (arith, length-most 1 11 (suc n) (omega arith) (omega arith) h)
 
 -- ---- the Julian day
-length-trim : (f : ℕ → Bool) (s : List ℕ) → length (trimEnd f s) ≤ length s
+pub length-trim : (f : ℕ → Bool) (s : List ℕ) → length (trimEnd f s) ≤ length s
 unfolding trimEnd
 length-trim f [] = omega arith
 length-trim f (b ∷ s) = go (every f (b ∷ s)) (length-trim f s)

@@ -11,3 +11,6 @@ pub mod Numbers
 pub mod Outcomes
 -- from the fields to what comes of the line's call
 pub mod Asking
+-- how long an answer may be: fields of two digits, and what is written of them
+pub mod Few
+pub mod Short

@@ -30,20 +30,20 @@ use Rattle.datetime.specs.Given.{Gives}
 use Rattle.lines.specs.Fields.{outcome}
 use Rattle.lines.specs.Shown.{Sound}
 
--- ---- what holds of each refusal and of what is read holds of the answer
+-- ---- what holds of each refusal and of what is read, where nothing is too long, holds of the answer
 module _ (P : Outcome → Type 0) (none : (x : Refusal) → P (refused x)) where
-  answer-holds : (set : Setting) (c : Call) → P (settle (reading set c)) → P (answer set c)
+  pub answer-holds : (set : Setting) (c : Call) → (badShape c ≡ false → P (settle (reading set c))) → P (answer set c)
   unfolding answer
-  answer-holds set c h = go (badShape c) (badBytes c) (badSetting set)
+  answer-holds set c h = go (badShape c) (badBytes c) (badSetting set) h
     where
-      go : (s b t : Bool) → P (settle (if s then refuse Refusal.Shape else (if b then refuse Refusal.Bytes else (if t then refuse Refusal.Setting else reading set c))))
-      go true b t = none Refusal.Shape
-      go false true t = none Refusal.Bytes
-      go false false true = none Refusal.Setting
-      go false false false = h
+      go : (s b t : Bool) → (s ≡ false → P (settle (reading set c))) → P (settle (if s then refuse Refusal.Shape else (if b then refuse Refusal.Bytes else (if t then refuse Refusal.Setting else reading set c))))
+      go true b t h = none Refusal.Shape
+      go false true t h = none Refusal.Bytes
+      go false false true h = none Refusal.Setting
+      go false false false h = h refl
 
   -- of what is read first, and then k
-  then-holds : {A : Type 0} (r : Read A) (k : A → Read Outcome) → ((a : A) → r ≡ got a → P (settle (k a))) → P (settle (_>>=_ r k))
+  pub then-holds : {A : Type 0} (r : Read A) (k : A → Read Outcome) → ((a : A) → r ≡ got a → P (settle (k a))) → P (settle (_>>=_ r k))
   then-holds (got a) k h = h a refl
   then-holds other k h = none Refusal.Null
   then-holds (refuse x) k h = none x
@@ -66,11 +66,11 @@ module _ (set : Setting) (v : Value) (m : List ℕ) (old : List ℕ) {r : Answer
   -- as a function that lends no buffer says it
   pub julianday-gives : r ≡ answered (answer set (call Function.Julianday v m)) 0 → Gives (answer set (call Function.Julianday v m)) old old r
   unfolding reading outcomeOf
-  julianday-gives e = textless-gives _ old (answer-holds Textless (λ x. tt) set (call Function.Julianday v m) (then-holds Textless (λ x. tt) (momentOf set v m) (λ p. got (outcomeOf Function.Julianday m p)) (λ p h. tt))) e
+  julianday-gives e = textless-gives _ old (answer-holds Textless (λ x. tt) set (call Function.Julianday v m) (λ _. then-holds Textless (λ x. tt) (momentOf set v m) (λ p. got (outcomeOf Function.Julianday m p)) (λ p h. tt))) e
 
   pub unixepoch-gives : r ≡ answered (answer set (call Function.Unixepoch v m)) 0 → Gives (answer set (call Function.Unixepoch v m)) old old r
   unfolding reading outcomeOf
-  unixepoch-gives e = textless-gives _ old (answer-holds Textless (λ x. tt) set (call Function.Unixepoch v m) (then-holds Textless (λ x. tt) (momentOf set v m) (λ p. got (outcomeOf Function.Unixepoch m p)) (λ p h. pick (p .subsec) p))) e
+  unixepoch-gives e = textless-gives _ old (answer-holds Textless (λ x. tt) set (call Function.Unixepoch v m) (λ _. then-holds Textless (λ x. tt) (momentOf set v m) (λ p. got (outcomeOf Function.Unixepoch m p)) (λ p h. pick (p .subsec) p))) e
     where
       pick : (t : Bool) (p : Moment) → Textless (if t then real (unixReal (p .ms)) else integer (unixSeconds (p .ms)))
       pick true p = tt
@@ -159,6 +159,6 @@ unfolding outcome
 sound set r room e = rw e (fine-sound (outcome set r) room (go r))
   where
     go : (r : Read Call) → Fine (outcome set r)
-    go (got c) = answer-holds Fine (λ x. tt) set c (fine-reading set c)
+    go (got c) = answer-holds Fine (λ x. tt) set c (λ _. fine-reading set c)
     go other = tt
     go (refuse x) = tt

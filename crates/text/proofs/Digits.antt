@@ -113,6 +113,47 @@ limited-reads n lo hi v next after s l r e h p k = rw (e, digits-got n lo hi v l
     go true false a b = (refl, tt)
     go false u a b = (refl, tt)
 
+-- ---- what n digits tell of the text
+-- there are n bytes, and what follows is what stands after them
+abbrev Rest : ℕ → List ℕ → Read (ℕ × List ℕ) → Type 0
+Rest n l (got (v, t)) = (n ≤ length l) × (t ≡ drop n l)
+Rest n l other = Unit
+Rest n l (refuse x) = Unit
+
+digitsOn-rest : (n v : ℕ) (l : List ℕ) → Rest n l (digitsOn n v l)
+unfolding digitsOn
+digitsOn-rest zero v l = (omega arith, refl)
+digitsOn-rest (suc n) v [] = tt
+digitsOn-rest (suc n) v (b ∷ l) = go (isDigit b) (digitsOn n (v * 10 + (b - 48)) l) (digitsOn-rest n (v * 10 + (b - 48)) l)
+  where
+    go : (t : Bool) (r : Read (ℕ × List ℕ)) → Rest n l r → Rest (suc n) (b ∷ l) (if t then r else other)
+    go true (got (x, t)) h = (omega arith, h .1)
+    go true other h = tt
+    go true (refuse x) h = tt
+    go false r h = tt
+
+abbrev Known : ℕ → ℕ → ℕ → List ℕ → Read (ℕ × List ℕ) → Type 0
+Known n lo hi l (got (v, t)) = (lo ≤ v) × (v ≤ hi) × (n ≤ length l) × (t ≡ drop n l)
+Known n lo hi l other = Unit
+Known n lo hi l (refuse x) = Unit
+
+known : (n lo hi : ℕ) (l : List ℕ) → Known n lo hi l (digits n lo hi l)
+unfolding digits
+known n lo hi l = go (digitsOn n 0 l) (digitsOn-rest n 0 l)
+  where
+    go : (r : Read (ℕ × List ℕ)) → Rest n l r → Known n lo hi l (_>>=_ r (λ w. onlyIf (leb lo (w .0) && leb (w .0) hi) w))
+    go (got (v, t)) h = within (leb lo v) (leb v hi) refl refl
+      where
+        within : (a b : Bool) → leb lo v ≡ a → leb v hi ≡ b → Known n lo hi l (onlyIf (a && b) (v, t))
+        within true true p q = (leb-true lo v p, leb-true v hi q, h .0, h .1)
+        within true false p q = tt
+        within false b p q = tt
+    go other h = tt
+    go (refuse x) h = tt
+
+pub digits-known : (n lo hi v : ℕ) (l t : List ℕ) → digits n lo hi l ≡ got (v, t) → (lo ≤ v) × (v ≤ hi) × (n ≤ length l) × (t ≡ drop n l)
+digits-known n lo hi v l t e = rw e at (known n lo hi l)
+
 -- ---- a run of digits, at one place after another
 pub run-past : (s : List ℕ) (i : ℕ) → length s ≤ i → run (drop i s) ≡ ([], [])
 unfolding run
