@@ -8,6 +8,8 @@
  * - Bytes handed in are only read. `out` must not overlap them.
  * - An answer changes the first `length` bytes of `out` and no other byte. A refusal changes none. No zero byte is put after a text.
  * - The clock and the offset are arguments: no function asks the system for the time or the zone.
+ * - docs/CALLS.md has the forms of time values, the modifiers and the letters of strftime. A day past its month's end and hour 24 can stand
+ *   in a text as they were written; the modifier "+0 days" renews them. Numbers don't depend on it.
  *
  * What is promised of every call, in the words of crates/rules/specs:
  *     A   = answer { clock, offset } call          the outcome: a text, an integer, an f64, or a refusal
@@ -47,12 +49,14 @@ enum dangsoviey_kind {
  * them; 7 is last. */
 enum dangsoviey_refusal {
     DANGSOVIEY_ANSWERED = 0,
-    DANGSOVIEY_NULL = 1,    /* null: what SQLite answers with NULL, and a time outside -4713-11-24 12:00 to the end of 9999 */
+    DANGSOVIEY_NULL = 1,    /* null: the arguments name no time, or one outside -4713-11-24 12:00 to the end of 9999, or the format has an
+                               unknown letter or ends in % */
     DANGSOVIEY_SHAPE = 2,   /* shape: a time value or modifier has over 255 bytes, a format over 1,024, there are over 16 modifiers,
                                or the last is not ended */
     DANGSOVIEY_BYTES = 3,   /* bytes: a time value, modifier or format holds a byte above 127 */
     DANGSOVIEY_SETTING = 4, /* setting: clock above 253402300799999, or offset outside -86399 to 86399 */
-    DANGSOVIEY_DECIMAL = 5, /* decimal: a number with over 19 digits, or whose last digit's power of ten is outside -22 to 22 */
+    DANGSOVIEY_DECIMAL = 5, /* decimal: a number with over 19 digits (leading zeros don't count, trailing ones do, zero always fits), or
+                               whose last digit's power of ten is outside -22 to 22 */
     DANGSOVIEY_EARLY = 6,   /* early: %J is met with under 86400000000000 ms, so before Julian day 1000000 */
     DANGSOVIEY_BUFFER = 7   /* buffer: the answer is longer than the buffer; `length` is the length needed */
 };
@@ -84,7 +88,7 @@ dangsoviey_reply dangsoviey_date(uint64_t clock, int64_t offset,
     const unsigned char *modifiers, size_t modifiers_length,
     unsigned char *out, size_t out_length);
 
-/* HH:MM:SS, and three decimals with the modifier subsec.
+/* HH:MM:SS, and three decimals with subsec, as a modifier or as the time value.
  * call: call Time (valueOf (givenOf given integer real) value) modifiers */
 dangsoviey_reply dangsoviey_time(uint64_t clock, int64_t offset,
     uint32_t given, int64_t integer, double real, const unsigned char *value, size_t value_length,
@@ -104,7 +108,7 @@ dangsoviey_reply dangsoviey_julianday(uint64_t clock, int64_t offset,
     uint32_t given, int64_t integer, double real, const unsigned char *value, size_t value_length,
     const unsigned char *modifiers, size_t modifiers_length);
 
-/* Seconds since 1970-01-01 UTC: an integer, rounded down; with the modifier subsec an f64.
+/* Seconds since 1970-01-01 UTC: an integer, rounded down; with subsec, as a modifier or as the time value, an f64.
  * call: call Unixepoch (valueOf (givenOf given integer real) value) modifiers */
 dangsoviey_reply dangsoviey_unixepoch(uint64_t clock, int64_t offset,
     uint32_t given, int64_t integer, double real, const unsigned char *value, size_t value_length,

@@ -164,7 +164,7 @@ fn class(line: &[u8], ours: &[u8], theirs: &[u8]) -> &'static str {
     } else if modifiers.is_empty() && call.function.starts_with(b"date") && day(call.value) > 28 {
         "a day past its month is not renewed"
     } else if time_form(call.value) && zone_after(call.value) && !modifiers.is_empty() {
-        "a time alone with a zone: utc and weekday"
+        "a time alone with a zone, and a modifier"
     } else if early(call.value) || ours.starts_with(b"-") || number.is_some_and(|n| n < EARLY) {
         "the calendar before year 400 is a day off in places"
     } else if zones > 1 {

@@ -52,7 +52,7 @@ pub fn date<'a, 'o>(
     text(raw::dangsoviey_date, setting, value.into(), modifiers, out)
 }
 
-/// HH:MM:SS, and three decimals with the modifier `subsec`.
+/// HH:MM:SS, and three decimals with `subsec`, as a modifier or as the time value.
 pub fn time<'a, 'o>(
     setting: Setting,
     value: impl Into<Value<'a>>,
@@ -147,7 +147,9 @@ pub fn strftime<'a, 'o>(
     Ok(ascii(&out[..length]))
 }
 
-/// The shift that, as a modifier, leads from `second` to `first`: a sign, then YYYY-MM-DD HH:MM:SS.SSS. An absent value is null here.
+/// How far, and which way, `second` is moved to reach `first`: a sign, then YYYY-MM-DD HH:MM:SS.SSS. As the only modifier of a `second` written
+/// in full (no zone, an existing day, an hour up to 23, years 0 to 9999) it leads to such a `first`, to the millisecond. An absent value is
+/// null here.
 pub fn timediff<'a, 'b, 'o>(
     setting: Setting,
     first: impl Into<Value<'a>>,

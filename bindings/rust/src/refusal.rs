@@ -4,7 +4,7 @@ use crate::raw::Reply;
 use std::error::Error;
 use std::fmt;
 
-/// Why a call has no answer. Exactly one holds, and nothing was written.
+/// Why a call has no answer: the first that holds, in the order below. Nothing was written.
 ///
 /// Shape, Bytes and Setting are tested first, in that order, over all arguments; then Null, Decimal and Early as reading meets them;
 /// NoRoom is last.
@@ -18,7 +18,8 @@ pub enum Refusal {
     Bytes,
     /// 4: The clock is above 253402300799999, or the offset outside -86399 to 86399.
     Setting,
-    /// 5: A number has more digits, or a larger or smaller power of ten, than are read exactly.
+    /// 5: A number has over 19 digits (leading zeros don't count, trailing ones do, zero always fits), or its last digit's power of ten is
+    /// outside -22 to 22.
     Decimal,
     /// 6: `%J` before Julian day 1,000,000.
     Early,
@@ -70,7 +71,9 @@ impl fmt::Display for Refusal {
             Refusal::Setting => {
                 "setting: clock above 253402300799999, or offset outside -86399 to 86399"
             }
-            Refusal::Decimal => "decimal: a number fits the grammar but not the limits",
+            Refusal::Decimal => {
+                "decimal: a number with over 19 digits, or whose last digit's power of ten is outside -22 to 22"
+            }
             Refusal::Early => "early: %J before Julian day 1000000",
             Refusal::NoRoom { needed } => {
                 return write!(f, "buffer: the answer has {needed} bytes, the buffer fewer")

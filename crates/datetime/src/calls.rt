@@ -3,7 +3,7 @@
 // "2, 3, 4 are tested first, in that order, over all arguments, whether used or not. Then 1 and 5 as reading meets them: time value
 // (timediff's first, then its second), modifiers left to right, final range."
 ghost use mathlib.Core.Path.{_≡_};
-ghost use mathlib.Core.Bool.{Bool, not, false};
+ghost use mathlib.Core.Bool.{false};
 ghost use Prim.Native.Nat.{_≤_};
 ghost use lib.ListN.{length};
 ghost use Rattle.rules.specs.Calls.{valueOf, bytesOf, over, high, modifiersBad, badSetting, call, strftime, timediff};
@@ -107,7 +107,7 @@ fn tested(fault: Fault, set: Setting) -> Gate
 
 // ---- one time value
 
-// "time value, modifiers left to right, final range"
+// "time value (..), modifiers left to right, final range"
 fn read(set: Setting, given: Given, value: &[u8], modifiers: &[u8]) -> Step
     requires { ⌜ (over 255 (bytesOf (valueOf given (now value))) ≡ false) × (modifiersBad (now modifiers) ≡ false) × (badSetting set ≡ false) ⌝ }
     ensures { λ r. ⌜ readOf r ≡ rule.momentOf set (valueOf given (now (value .entry))) (now (modifiers .entry)) ⌝ }

@@ -22,7 +22,6 @@
 ghost use Prim.Native.Nat.{_≤_};
 ghost use lib.ListN.{length};
 use libc::STDIN_FILENO;
-use libc::STDOUT_FILENO;
 use rules::Answer;
 use rules::Given;
 use rules::Refusal;

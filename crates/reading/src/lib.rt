@@ -326,7 +326,7 @@ fn number_value(s: &[u8], clock: u64) -> Step
     }
 }
 
-// "Tried in order: `[-]YYYY-MM-DD` with optional time; a time alone; `now`; a decimal; `subsec` or `subsecond`. Words in either case."
+// "Tried in order: `[-]YYYY-MM-DD` with optional time; a time alone (date 2000-01-01); `now`; a decimal; `subsec` or `subsecond`. Words in either case."
 pub fn text_value(s: &[u8], clock: u64) -> Step
     requires { ⌜ length (now s) ≤ 255 ⌝ ∗ ⌜ clock ≤ 253402300799999 ⌝ }
     ensures { λ r. ⌜ readOf r ≡ reading.textValue clock (now (s .entry)) ⌝ }
@@ -344,7 +344,7 @@ pub fn text_value(s: &[u8], clock: u64) -> Step
     number_value(s, clock)
 }
 
-// "A time value is absent (read as `now`), null, bytes, a 64-bit signed integer or an f64." The bytes stand in s.
+// "A time value is absent (read as `now`; ..), null, bytes, a 64-bit signed integer or an f64." The bytes stand in s.
 pub fn time_value(given: Given, s: &[u8], clock: u64) -> Step
     requires { ⌜ length (bytesOf (valueOf given (now s))) ≤ 255 ⌝ ∗ ⌜ clock ≤ 253402300799999 ⌝ }
     ensures { λ r. ⌜ readOf r ≡ reading.timeValue clock (valueOf given (now (s .entry))) ⌝ }

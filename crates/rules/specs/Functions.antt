@@ -16,7 +16,7 @@ use Rattle.rules.specs.Types.{Setting, Refusal, Function}
 unfoldable pub ranged : Moment → Read Moment
 ranged p = let q = countMs p in if not (q .failed) && inRange (q .ms) then got q else refuse Refusal.Null
 
--- "time value, modifiers left to right, final range"
+-- "time value (..), modifiers left to right, final range"
 unfoldable pub momentOf : Setting → Value → List ℕ → Read Moment
 momentOf set v m = do
   p ← timeValue (set .clock) v

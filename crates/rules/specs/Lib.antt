@@ -1,4 +1,4 @@
--- What a reader must believe: the rules of document 01, in its order, each sentence above the definition that renders it. On top stands
+-- What a reader must believe: the rules of document 01. A definition has the sentence that it renders above it, in quotes. On top stands
 -- Functions.answer, for every setting and call; Calls.answered and Calls.after say what comes back and what the lent buffer then holds.
 pub mod Types
 pub mod Basics

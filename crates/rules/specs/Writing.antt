@@ -153,7 +153,7 @@ before a b = do
   t ← b
   got (s ++ t)
 
--- "format left to right": what is no % stands for itself; "a last `%` gives 1"
+-- "format left to right": what is no % stands for itself; "a last `%`, gives 1"
 unfoldable pub formatted : Moment → List ℕ → Read (List ℕ)
 formatted p [] = got []
 formatted p (b ∷ []) = if is "%" b then refuse Refusal.Null else got (b ∷ [])
