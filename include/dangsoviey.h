@@ -137,7 +137,8 @@ dangsoviey_reply dangsoviey_milliseconds(uint64_t clock, int64_t offset,
     uint32_t given, int64_t integer, double real, const unsigned char *value, size_t value_length,
     const unsigned char *modifiers, size_t modifiers_length);
 
-/* YYYY-MM-DD HH:MM:SS.SSS; refusal 1 below -210866760000000 and above 253402300799999.
+/* YYYY-MM-DD HH:MM:SS.SSS; refusal 1 below -210866760000000 and above 253402300799999. From the year 0 on, dangsoviey_milliseconds of the
+ * text is ms again.
  * the reply is replyOf (answered (stamp ms) out_length), and out then holds after (stamp ms) (what out held) */
 dangsoviey_reply dangsoviey_stamp(int64_t ms, unsigned char *out, size_t out_length);
 

@@ -2,3 +2,5 @@
 pub mod Replies
 -- whole Unix milliseconds
 pub mod Milliseconds
+-- a stamp and its milliseconds, there and back
+pub mod Back

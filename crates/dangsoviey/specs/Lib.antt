@@ -1,3 +1,4 @@
 -- What the contracts cite beside crate rules' definitions.
 pub mod Replies
 pub mod Milliseconds
+pub mod Back

@@ -41,11 +41,11 @@ same-answer : (set : Setting) (c d : Call) → badShape c ≡ badShape d → bad
 unfolding answer
 same-answer set c d s b r = rw (s, b, r)
 
-none-bad : modifiersBad [] ≡ false
+pub none-bad : modifiersBad [] ≡ false
 unfolding modifiersBad lastEnded modifiers every
 none-bad = refl
 
-none-high : high [] ≡ false
+pub none-high : high [] ≡ false
 unfolding high every
 none-high = refl
 
