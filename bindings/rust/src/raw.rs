@@ -64,78 +64,53 @@ pub type TextFunction = unsafe extern "C" fn(
 pub type NumberFunction =
     unsafe extern "C" fn(u64, i64, u32, i64, f64, *const u8, usize, *const u8, usize) -> Reply;
 
-extern "C" {
+/// A function of one time value and its modifiers, and what else it takes.
+macro_rules! of_one_value {
+    ($(#[$words:meta])* $name:ident $(, $more:ident: $type:ty)*) => {
+        extern "C" {
+            $(#[$words])*
+            pub fn $name(
+                clock: u64,
+                offset: i64,
+                given: u32,
+                integer: i64,
+                real: f64,
+                value: *const u8,
+                value_length: usize,
+                modifiers: *const u8,
+                modifiers_length: usize
+                $(, $more: $type)*
+            ) -> Reply;
+        }
+    };
+}
+
+of_one_value! {
     /// YYYY-MM-DD.
-    pub fn dangsoviey_date(
-        clock: u64,
-        offset: i64,
-        given: u32,
-        integer: i64,
-        real: f64,
-        value: *const u8,
-        value_length: usize,
-        modifiers: *const u8,
-        modifiers_length: usize,
-        out: *mut u8,
-        out_length: usize,
-    ) -> Reply;
-
+    dangsoviey_date, out: *mut u8, out_length: usize
+}
+of_one_value! {
     /// HH:MM:SS, and three decimals with `subsec`.
-    pub fn dangsoviey_time(
-        clock: u64,
-        offset: i64,
-        given: u32,
-        integer: i64,
-        real: f64,
-        value: *const u8,
-        value_length: usize,
-        modifiers: *const u8,
-        modifiers_length: usize,
-        out: *mut u8,
-        out_length: usize,
-    ) -> Reply;
-
+    dangsoviey_time, out: *mut u8, out_length: usize
+}
+of_one_value! {
     /// The date, a space and the time.
-    pub fn dangsoviey_datetime(
-        clock: u64,
-        offset: i64,
-        given: u32,
-        integer: i64,
-        real: f64,
-        value: *const u8,
-        value_length: usize,
-        modifiers: *const u8,
-        modifiers_length: usize,
-        out: *mut u8,
-        out_length: usize,
-    ) -> Reply;
-
+    dangsoviey_datetime, out: *mut u8, out_length: usize
+}
+of_one_value! {
     /// The Julian day, an f64.
-    pub fn dangsoviey_julianday(
-        clock: u64,
-        offset: i64,
-        given: u32,
-        integer: i64,
-        real: f64,
-        value: *const u8,
-        value_length: usize,
-        modifiers: *const u8,
-        modifiers_length: usize,
-    ) -> Reply;
-
+    dangsoviey_julianday
+}
+of_one_value! {
     /// Seconds since 1970, an integer; with `subsec` an f64.
-    pub fn dangsoviey_unixepoch(
-        clock: u64,
-        offset: i64,
-        given: u32,
-        integer: i64,
-        real: f64,
-        value: *const u8,
-        value_length: usize,
-        modifiers: *const u8,
-        modifiers_length: usize,
-    ) -> Reply;
+    dangsoviey_unixepoch
+}
+of_one_value! {
+    /// The moment as whole milliseconds since 1970, an integer.
+    dangsoviey_milliseconds
+}
 
+extern "C" {
     /// What a format says of the moment.
     pub fn dangsoviey_strftime(
         clock: u64,
@@ -169,19 +144,6 @@ extern "C" {
         second_length: usize,
         out: *mut u8,
         out_length: usize,
-    ) -> Reply;
-
-    /// The moment as whole milliseconds since 1970, an integer.
-    pub fn dangsoviey_milliseconds(
-        clock: u64,
-        offset: i64,
-        given: u32,
-        integer: i64,
-        real: f64,
-        value: *const u8,
-        value_length: usize,
-        modifiers: *const u8,
-        modifiers_length: usize,
     ) -> Reply;
 
     /// YYYY-MM-DD HH:MM:SS.SSS of milliseconds since 1970.

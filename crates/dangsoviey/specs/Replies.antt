@@ -48,5 +48,9 @@ realOf (Answer.Real x) = x
 realOf (Answer.Refused r) = number 0
 realOf (Answer.NoRoom n) = number 0
 
+-- a refusal by its number, with 7 the length needed
+abbrev pub refusedBy : ℕ → ℕ → Reply
+refusedBy k n = record { kind = 0; refusal = k; length = n; integer = pos 0; real = number 0 }
+
 abbrev pub replyOf : Answer → Reply
 replyOf a = record { kind = kindOf a; refusal = refusalOf a; length = lengthOf a; integer = integerOf a; real = realOf a }

@@ -9,7 +9,7 @@ ghost use lib.ListN.{length};
 ghost use Rattle.rules.specs.Calls.{numberOf, valueOf, call, strftime, timediff, answered, after};
 ghost use Rattle.rules.specs.Functions.{answer};
 ghost use Rattle.rules.specs.declared.Function.{Function};
-ghost use Rattle.dangsoviey.specs.Replies.{givenOf, replyOf};
+ghost use Rattle.dangsoviey.specs.Replies.{givenOf, refusedBy, replyOf};
 use rules::Answer;
 use rules::Given;
 use rules::Refusal;
@@ -55,6 +55,19 @@ fn number_of(refusal: Refusal) -> u32
     }
 }
 
+// Nothing but why, and with 7 the length needed.
+fn refused(refusal: u32, length: usize) -> Reply
+    ensures { λ r. ⌜ r ≡ refusedBy refusal length ⌝ }
+{
+    Reply {
+        kind: 0,
+        refusal,
+        length,
+        integer: 0,
+        real: 0.0,
+    }
+}
+
 fn reply_of(answer: Answer) -> Reply
     ensures { λ r. ⌜ r ≡ replyOf answer ⌝ }
 {
@@ -80,22 +93,8 @@ fn reply_of(answer: Answer) -> Reply
             integer: 0,
             real: x,
         },
-        Answer::Refused(r) => {
-            Reply {
-                kind: 0,
-                refusal: number_of(r),
-                length: 0,
-                integer: 0,
-                real: 0.0,
-            }
-        }
-        Answer::NoRoom(n) => Reply {
-            kind: 0,
-            refusal: 7,
-            length: n,
-            integer: 0,
-            real: 0.0,
-        },
+        Answer::Refused(r) => refused(number_of(r), 0),
+        Answer::NoRoom(n) => refused(7, n),
     }
 }
 

@@ -15,7 +15,7 @@ use Rattle.rules.specs.declared.Time.{Time}
 use Rattle.rules.specs.declared.Ymd.{Ymd}
 use Rattle.calendar.specs.Ranges.{MonthDay, Countable}
 use Rattle.moment.specs.Ranges.{sumTakes, TimeIn, TimeRead, Sane}
-use Rattle.moment.specs.Sums.{dateMeant, timeMeant, instantOf, summedTo, Unsettled}
+use Rattle.moment.specs.Sums.{dateMeant, timeMeant, civilInstant, summedTo, Unsettled}
 use Rattle.moment.proofs.Branches.{branch-false, either, by-test}
 use Rattle.moment.proofs.Bounds.{no-seconds}
 use Rattle.moment.proofs.Steps.{taken, summed, unsummed}
@@ -96,7 +96,7 @@ with-meant p n = go (p .timed)
     go true = same-else (eqb (p .zone) noZone) there (λ h. ap (counted p) (zoneless-ms here (p .zone) h))
     go false = ap (counted p) (omega (arith, no-time-ms))
 
-pub count-sums : (p : Moment) (d : Ymd) (t : Time) (n : ℕ) → d ≡ dateMeant p → t ≡ timeMeant p → n ≡ instantOf (d .year) (d .month) (d .day) (t .hour) (t .minute) (t .second) (t .zone) → p .counted ≡ false → sumTakes (d .year) (p .raw) ≡ true → summedTo p n (t .zone) ≡ countMs p
+pub count-sums : (p : Moment) (d : Ymd) (t : Time) (n : ℕ) → d ≡ dateMeant p → t ≡ timeMeant p → n ≡ civilInstant (d .year) (d .month) (d .day) (t .hour) (t .minute) (t .second) (t .zone) → p .counted ≡ false → sumTakes (d .year) (p .raw) ≡ true → summedTo p n (t .zone) ≡ countMs p
 count-sums p d t n e f g c h =
     let m = midnight (d .year) (d .month) (d .day) in
     ap (λ (k : ℕ). summedTo p k (t .zone)) g ∙ ap (summedAt p m) f ∙ sym (count-meant p c ∙ ap (sumAt p) (sym e) ∙ summed p _ _ _ h ∙ with-meant p m)
@@ -104,7 +104,7 @@ count-sums p d t n e f g c h =
 pub count-fails : (p : Moment) (d : Ymd) → d ≡ dateMeant p → p .counted ≡ false → sumTakes (d .year) (p .raw) ≡ false → failure ≡ countMs p
 count-fails p d e c h = sym (count-meant p c ∙ ap (sumAt p) (sym e) ∙ unsummed p _ _ _ h)
 
--- ---- "a zone is taken off at once"
+-- ---- a zone is taken off at once
 pub settled-not : (p : Moment) → p .zone ≡ noZone → p ≡ settled p
 settled-not p z = rw (eq-eqb (p .zone) noZone z)
 
@@ -112,13 +112,13 @@ settled-counts : (p : Moment) → (p .zone ≡ noZone → ⊥) → countMs p ≡
 settled-counts p z = rw (ne-eqb (p .zone) noZone z)
 
 pub settled-fails : (p : Moment) → Unsettled p → (p .zone ≡ noZone → ⊥) → sumTakes (p .year) (p .raw) ≡ false → failure ≡ settled p
-settled-fails p u z h = count-fails p _ (date-known p (u .dated)) (u .uncounted) h ∙ settled-counts p z
+settled-fails p u z h = count-fails p _ (date-known p (u .dated)) (u .fresh .uncounted) h ∙ settled-counts p z
 
 settled-timed : (p : Moment) → Unsettled p → (p .zone ≡ noZone → ⊥) → p .timed ≡ true
-settled-timed p u z = u .timed (ne-eqb (p .zone) noZone z)
+settled-timed p u z = u .fresh .timed (ne-eqb (p .zone) noZone z)
 
 pub settled-time : (p : Moment) → Sane p → Unsettled p → (p .zone ≡ noZone → ⊥) → TimeIn (p .hour) (p .minute) true (p .second) (p .zone)
 settled-time p s u z = time-asked p _ (time-known p (settled-timed p u z)) s
 
-pub settled-sums : (p : Moment) (n : ℕ) → Unsettled p → n ≡ instantOf (p .year) (p .month) (p .day) (p .hour) (p .minute) (p .second) (p .zone) → (p .zone ≡ noZone → ⊥) → sumTakes (p .year) (p .raw) ≡ true → summedTo p n (p .zone) ≡ settled p
-settled-sums p n u g z h = count-sums p _ _ n (date-known p (u .dated)) (time-known p (settled-timed p u z)) g (u .uncounted) h ∙ settled-counts p z
+pub settled-sums : (p : Moment) (n : ℕ) → Unsettled p → n ≡ civilInstant (p .year) (p .month) (p .day) (p .hour) (p .minute) (p .second) (p .zone) → (p .zone ≡ noZone → ⊥) → sumTakes (p .year) (p .raw) ≡ true → summedTo p n (p .zone) ≡ settled p
+settled-sums p n u g z h = count-sums p _ _ n (date-known p (u .dated)) (time-known p (settled-timed p u z)) g (u .fresh .uncounted) h ∙ settled-counts p z

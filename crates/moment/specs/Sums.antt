@@ -24,15 +24,19 @@ timeMeant p =
     else record { hour = 0; minute = 0; second = number 0; zone = noZone; utc = false }
 
 -- the instant of a date and a time of day in a zone
-abbrev pub instantOf : ℕ → ℕ → ℕ → ℕ → ℕ → Float → ℕ → ℕ
-instantOf y m d h min s zone = midnight y m d + rule.timeMs h min s + noZone * 60000 - zone * 60000
+abbrev pub civilInstant : ℕ → ℕ → ℕ → ℕ → ℕ → Float → ℕ → ℕ
+civilInstant y m d h min s zone = midnight y m d + rule.timeMs h min s + noZone * 60000 - zone * 60000
 
 -- the milliseconds of the fields, which no longer stand where a zone was taken off
 abbrev pub summedTo : rule.Moment → ℕ → ℕ → rule.Moment
 summedTo p ms zone = if eqb zone noZone then rule.counted p ms else rule.setUtc (rule.clear (rule.counted p ms))
 
--- a date that was read, whose milliseconds are not summed; where it has a zone, it has a time
-pub record Unsettled (p : rule.Moment) : Type 0 where
+-- a record as it was read: no milliseconds are summed, and a zone stands only where there is a time
+pub record Fresh (p : rule.Moment) : Type 0 where
   pub uncounted : p .counted ≡ false
-  pub dated : p .dated ≡ true
   pub timed : eqb (p .zone) noZone ≡ false → p .timed ≡ true
+
+-- and with its date
+pub record Unsettled (p : rule.Moment) : Type 0 where
+  pub fresh : Fresh p
+  pub dated : p .dated ≡ true

@@ -13,7 +13,7 @@ ghost use Rattle.calendar.specs.Ranges.{MonthDay, Countable};
 ghost use Rattle.real.specs.InMinute.{inMinute};
 ghost use Rattle.moment.specs.Held.{held};
 ghost use Rattle.moment.specs.Ranges.{sumTakes, TimeIn, TimeRead, ReadYear, Sane, After, Filled};
-ghost use Rattle.moment.specs.Sums.{dateMeant, timeMeant, instantOf, summedTo, Unsettled};
+ghost use Rattle.moment.specs.Sums.{dateMeant, timeMeant, civilInstant, summedTo, Unsettled};
 use rules::Refusal;
 use rules::Time;
 use rules::Ymd;
@@ -85,7 +85,7 @@ pub fn time_ms(hour: u32, minute: u32, second: f64) -> u64
 // it stays a function, counting around it is inlined, and records stay in registers (docs/SPEED.md).
 fn instant(year: u32, month: u32, day: u32, hour: u32, minute: u32, second: f64, zone: u32) -> u64
     requires { ⌜ Countable year month day ⌝ ∗ ⌜ TimeIn hour minute true second zone ⌝ }
-    ensures { λ r. ⌜ r ≡ instantOf year month day hour minute second zone ⌝ }
+    ensures { λ r. ⌜ r ≡ civilInstant year month day hour minute second zone ⌝ }
 {
     let local = calendar::midnight(year, month, day) + time_ms(hour, minute, second);
     local + 86400000 - zone as u64 * 60000
@@ -263,7 +263,7 @@ impl Moment {
         self.summed(ms, t.zone)
     }
 
-    // "a zone is taken off at once" of a date and time that were read; without one the record stays.
+    // The zone of a date and time that were read is taken off at once; without one the record stays.
     pub fn settled(self) -> Moment
         requires { ⌜ Sane (held self) × Unsettled (held self) ⌝ }
         ensures { λ r. ⌜ Filled self r (reading.settled (held self)) ⌝ }

@@ -12,10 +12,10 @@ use Rattle.rules.specs.Moments.{Moment, blank, setTime, setTimed, setZone, setU
 use Rattle.rules.specs.Reading.{time, timed, timeAfter, settled, dateFrom, dateForm, timeForm}
 use Rattle.rules.specs.declared.Time.{Time}
 use Rattle.moment.specs.Ranges.{ReadYear}
-use Rattle.moment.specs.Sums.{Unsettled}
+use Rattle.moment.specs.Sums.{Fresh, Unsettled}
 use Rattle.text.specs.Places.{begins, gap}
 use Rattle.text.proofs.Digits.{digits-short}
-use Rattle.reading.specs.Readers.{yearMonthDay, heldYear, Fresh}
+use Rattle.reading.specs.Readers.{yearMonthDay, heldYear}
 use Rattle.reading.proofs.Steps.{or-other, then-then, char-then, digits-then}
 
 -- ---- YYYY-MM-DD
@@ -106,7 +106,7 @@ module _ (held : ℕ → ℕ) (l : List ℕ) where
 -- with no milliseconds: a zone may be taken off
 pub date-unsettled : (p q : Moment) (y m d : ℕ) → Fresh p → q ≡ pastEnd (setDated (setDate p y m d) true) → Unsettled q
 unfolding pastEnd
-date-unsettled p q y m d h e = rw e record { uncounted = h .uncounted; dated = refl; timed = h .timed }
+date-unsettled p q y m d h e = rw e record { fresh = record { uncounted = h .uncounted; timed = h .timed }; dated = refl }
 
 -- ---- a minus before it
 minus : (l : List ℕ) → dateForm (45 ∷ l) ≡ dateFrom minusYear l

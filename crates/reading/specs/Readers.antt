@@ -1,6 +1,6 @@
 -- What a reader's answer stands for in the rules, and the bounds that callers need of it.
 use Prim.Native.Nat.{ℕ, _+_, _-_, _≤_}
-use mathlib.Core.Bool.{Bool, true, false, _||_}
+use mathlib.Core.Bool.{Bool, true, _||_}
 use mathlib.Core.Path.{_≡_}
 use mathlib.Core.List.{List}
 use lib.Dec.{eqb}
@@ -16,6 +16,7 @@ use Rattle.rules.specs.declared.Time.{Time}
 use Rattle.real.specs.InMinute.{inMinute}
 use Rattle.moment.specs.Held.{held}
 use Rattle.moment.specs.Ranges.{TimeRead, After}
+use Rattle.moment.specs.Sums.{Fresh}
 use Rattle.reading.specs.declared.HourMinute.{HourMinute}
 use Rattle.reading.specs.declared.Minutes.{Minutes}
 use Rattle.reading.specs.declared.Zoned.{Zoned}
@@ -129,11 +130,6 @@ formOf Form.Other = other
 abbrev pub FormHeld : Form → Type 0
 FormHeld (Form.Is p) = After 0 (held p)
 FormHeld Form.Other = Unit
-
--- the record of a time alone, or of nothing: no milliseconds stand, and a zone only where there is a time
-pub record Fresh (p : rule.Moment) : Type 0 where
-  pub uncounted : p .counted ≡ false
-  pub timed : eqb (p .zone) noZone ≡ false → p .timed ≡ true
 
 abbrev pub FormFresh : Form → Type 0
 FormFresh (Form.Is p) = Fresh (held p)

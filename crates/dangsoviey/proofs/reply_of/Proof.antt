@@ -8,7 +8,7 @@ use mir.Syntax.{w64}
 use mir.ValLaws.{toZ-ofZ}
 use Rattle.rules.specs.Floats.{number}
 use Rattle.dangsoviey.specs.declared.Reply.{Reply}
-use Rattle.dangsoviey.specs.Replies.{replyOf}
+use Rattle.dangsoviey.specs.Replies.{refusedBy, replyOf}
 use Rattle.dangsoviey.proofs.reply_of.Statement.{statement}
 use Rattle.dangsoviey.proofs.reply_of.Tie as tie
 
@@ -27,11 +27,14 @@ enum-known-answer-4 c = search needs
 number-of-requires : tie.Need-number-of-requires
 number-of-requires c κs = search needs
 
+refused-requires : tie.Need-refused-requires
+refused-requires c κs = search needs
+
 enum-known-answer-5 : tie.Need-enum-known-answer-5
 enum-known-answer-5 c = search needs
 
-abbrev refusing : ℕ → Reply
-refusing k = record { kind = 0; refusal = k; length = 0; integer = pos 0; real = number 0 }
+refused-requires-2 : tie.Need-refused-requires-2
+refused-requires-2 c κs = search needs
 
 abbrev numbering : ℤ → Reply
 numbering n = record { kind = 2; refusal = 0; length = 0; integer = n; real = number 0 }
@@ -48,12 +51,10 @@ returns-3 : tie.Need-returns-3
 returns-3 c = sym (ap replyOf (c .before .answer3 .given .1))
 
 returns-4 : tie.Need-returns-4
-unfolding ofBits ofInt
-returns-4 c = sym (ap replyOf (c .before .before .answer4 .given .1) ∙ ap refusing (sym (c .number-of .ensures)))
+returns-4 c = c .refused .ensures ∙ ap (λ (k : ℕ). refusedBy k 0) (c .before .number-of .ensures) ∙ sym (ap replyOf (c .before .before .before .answer4 .given .1))
 
 returns-5 : tie.Need-returns-5
-unfolding ofBits ofInt
-returns-5 c = sym (ap replyOf (c .before .answer5 .given .1))
+returns-5 c = c .refused2 .ensures ∙ sym (ap replyOf (c .before .before .answer5 .given .1))
 
 pub reply-of-spec : {M : Type 1} → statement M
 reply-of-spec =
@@ -64,7 +65,9 @@ reply-of-spec =
     enum-known-answer-3
     enum-known-answer-4
     number-of-requires
+    refused-requires
     enum-known-answer-5
+    refused-requires-2
     returns
     returns-2
     returns-3

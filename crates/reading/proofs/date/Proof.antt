@@ -11,7 +11,8 @@ use Rattle.rules.specs.Moments.{setDate, setDated, pastEnd}
 use Rattle.rules.specs.Reading.{timeAfter, settled, dateFrom, dateForm}
 use Rattle.moment.specs.Held.{held}
 use Rattle.moment.specs.Ranges.{After}
-use Rattle.reading.specs.Readers.{yearMonthDay, ymdOf, Limits, heldYear, formOf, Fresh}
+use Rattle.reading.specs.Readers.{yearMonthDay, ymdOf, Limits, heldYear, formOf}
+use Rattle.moment.specs.Sums.{Fresh}
 use Rattle.reading.proofs.Steps.{read-as}
 use Rattle.reading.proofs.Dates.{no-date, no-time-after, date-and-time, date-unsettled, held-year-in, after-minus, no-minus}
 use Rattle.reading.proofs.date.Statement.{statement}
