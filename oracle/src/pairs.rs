@@ -1,4 +1,4 @@
-//! `oracle pairs`: the input of the port's program `pairs`, and what that must
+//! `oracle pairs`: the input of the port's program `test_pairs`, and what that must
 //! write.
 
 use crate::generator;

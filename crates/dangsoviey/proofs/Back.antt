@@ -25,11 +25,11 @@ use Rattle.real.proofs.Seconds.{filled-thousandths}
 use Rattle.digits.proofs.Decimal.{wide-places}
 use Rattle.moment.proofs.Steps.{already, in-range, date-filled, time-filled}
 use Rattle.reading.specs.Written.{Stamp, written, Full}
-use Rattle.putback.specs.Demand.{Instant, at}
-use Rattle.putback.proofs.Demand.{none-bad, none-high}
-use Rattle.putback.proofs.Given.{given}
-use Rattle.putback.proofs.Reached.{by-itself}
-use Rattle.putback.proofs.Texts.{in-written, not-high}
+use Rattle.law_putback.specs.Demand.{Instant, at}
+use Rattle.law_putback.proofs.Demand.{none-bad, none-high}
+use Rattle.law_putback.proofs.Given.{given}
+use Rattle.law_putback.proofs.Reached.{by-itself}
+use Rattle.law_putback.proofs.Texts.{in-written, not-high}
 use Rattle.dangsoviey.specs.Milliseconds.{milliseconds, instantOf, stamped}
 use Rattle.dangsoviey.specs.Back.{Back}
 use Rattle.dangsoviey.proofs.Milliseconds.{stamp-text}

@@ -22,9 +22,9 @@ use Rattle.rules.specs.declared.Setting.{Setting}
 use Rattle.calendar.specs.Ranges.{InRange}
 use Rattle.moment.proofs.Branches.{never, either, by-test}
 use Rattle.timediff.proofs.Text.{bytes-range}
-use Rattle.putback.specs.Demand.{Instant, value, alone, shiftBy, Kept}
+use Rattle.law_putback.specs.Demand.{Instant, value, alone, shiftBy, Kept}
 use Rattle.reading.specs.Written.{written}
-use Rattle.putback.proofs.Demand.{demand-3}
+use Rattle.law_putback.proofs.Demand.{demand-3}
 use Rattle.reaches.specs.Back.{ended, spanOf, backOf, backWith, outOf, outWith, AsOfA}
 
 -- ---- timediff answers by a text of 24 or 25 bytes, or by a refusal

@@ -11,7 +11,7 @@ use Rattle.rules.specs.Functions.{answer}
 use Rattle.rules.specs.declared.Setting.{Setting}
 use Rattle.rules.specs.declared.Answer.{Answer}
 use Rattle.reading.specs.Written.{written}
-use Rattle.putback.specs.Demand.{Instant, value, alone}
+use Rattle.law_putback.specs.Demand.{Instant, value, alone}
 
 -- ---- the first call
 -- its text, ended by the zero byte of a modifier

@@ -1,5 +1,5 @@
-// Demand 3 of the code: timediff of A and B, put back as B's only modifier, reaches A. Crate putback proves it of the rules' definitions
-// (putback/specs/Demand.antt).
+// Demand 3 of the code: timediff of A and B, put back as B's only modifier, reaches A. Crate law_putback proves it of the rules' definitions
+// (law_putback/specs/Demand.antt).
 ghost use mathlib.Core.Path.{_≡_};
 ghost use Prim.Native.Nat.{_-_};
 ghost use lib.ListN.{length};

@@ -1,4 +1,4 @@
-//! The rows that the program `numbers` is run on, and the answers that must come out.
+//! The rows that the program `test_numbers` is run on, and the answers that must come out.
 //!
 //! `numbers stdin` prints the rows, `numbers stdout` the answers, a line each. The answers come from Rust's own `parse` and `format!`, and from
 //! document 01's limits applied here to the written digits as whole numbers. The seed is fixed: two runs print the same.

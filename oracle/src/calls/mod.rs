@@ -1,4 +1,4 @@
-//! `oracle limits`: the calls of the port's program `limits`, and what that
+//! `oracle limits`: the calls of the port's program `test_limits`, and what that
 //! must write. A line names any call of a public function, also those that no
 //! line of the program format can hold. README.md has the form.
 
