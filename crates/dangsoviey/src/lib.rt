@@ -4,6 +4,8 @@
 // the pointer may be null. A time value is a number that says what is given (`given_of`): 0 nothing, 1 null, 2 the bytes of `value`,
 // 3 `integer`, 4 `real`, and any other number is null. What comes back is crate rules' answer as five numbers (`reply_of`), and the lent
 // buffer holds what `after` says.
+#![tactic(auto)]
+
 ghost use Rattle.std.specs.Prelude.{◌≡◌, length};
 ghost use Rattle.rules.specs.Calls.{number_of, value_of, call, strftime, timediff, answered, after};
 ghost use Rattle.rules.specs.Functions.{answer};
@@ -17,7 +19,7 @@ mod stamps;
 // What comes back. `kind`: 0 refused, 1 a text in the lent buffer, 2 an integer, 3 an f64. `refusal`: 0, or document 01's number 1 to 7.
 // `length`: of the text; with refusal 7 the length needed. The fields that a kind does not use are 0.
 #[repr(C)]
-#[derive(Drop)]
+#[derive(Clone, Copy)]
 pub struct Reply {
     pub kind: u32,
     pub refusal: u32,

@@ -4,6 +4,8 @@
 //
 // A line that lies whole in a block is answered there. One that goes on in the next block is kept: its first 8,193 bytes, which tell that
 // a longer one is too long. The last line needs no newline, and a last newline begins no line.
+#![tactic(auto)]
+
 ghost use Rattle.std.specs.Prelude.{◌≡◌, ◌+◌, ◌-◌, ◌≤◌, ◌<◌, ltb, length, take};
 ghost use Rattle.text.specs.Places.{Passed};
 ghost use Rattle.digits.specs.Writers.{Room, Laid};
@@ -21,7 +23,7 @@ const ANSWER: usize = 16384;
 // ---- lines of a block
 
 // How far a block is answered, and how many bytes of the output stand in its buffer.
-#[derive(Drop)]
+#[derive(Clone, Copy)]
 struct Place {
     at: usize,
     used: usize,
@@ -120,7 +122,7 @@ fn put(out: &mut [u8], at: usize, s: &[u8]) -> usize
 
 // ---- the run
 
-#[derive(Drop)]
+#[derive(Clone, Copy)]
 struct Run {
     // of the first line, once it has been read: begun
     set: Setting,

@@ -67,7 +67,7 @@ fn bytes_or(b: Fault) -> Fault
 }
 
 // Whether a call is let through to reading.
-#[derive(Drop)]
+#[derive(Clone, Copy)]
 enum Gate {
     Open,
     Refused(Refusal),
@@ -142,7 +142,7 @@ pub fn moment_of(set: Setting, given: Given, value: &[u8], modifiers: &[u8]) -> 
 // ---- timediff's two
 
 // Two instants, in milliseconds as they are held.
-#[derive(Drop)]
+#[derive(Clone, Copy)]
 pub enum Pair {
     Are(u64, u64),
     Refused(Refusal),

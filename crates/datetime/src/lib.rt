@@ -5,6 +5,8 @@
 // as they were.
 //
 // A time value is what is `given`; where that is Bytes, they are `value`. Modifiers lie in one buffer, each ended by a zero byte.
+#![tactic(auto)]
+
 ghost use Rattle.std.specs.Prelude.{◌≡◌, length};
 ghost use Rattle.rules.specs.Calls.{value_of, call, strftime, timediff, answered, after};
 ghost use Rattle.rules.specs.Functions.{answer};

@@ -10,6 +10,8 @@
 // A reader takes the slice and a place `at` in it, and hands back the place `next` where it stopped.
 // The number that digits write is held up to 10^19, and as 10^19 from there on: as D it has more than 19 digits, and as an exponent no
 // digits after the point, of which a slice has fewer than 2^63, bring it back to 22.
+#![tactic(auto)]
+
 ghost use Rattle.std.specs.Prelude.{◌≡◌, ◌||◌, ◌+◌, ◌*◌, ◌^◌, ◌≤◌, ◌<◌, min, length, drop};
 ghost use Rattle.std.specs.Float.Ieee.{neg};
 ghost use Rattle.rules.specs.Basics.{if◌then◌else◌, is};
@@ -25,7 +27,7 @@ const OVER: u64 = 10000000000000000000;
 const POWER: u64 = 22;
 
 // What a text is: no decimal, one that is over the limits (refusal 5), or this f64.
-#[derive(Drop)]
+#[derive(Clone, Copy)]
 pub enum Number {
     NotOne,
     Over,
@@ -48,7 +50,7 @@ pub fn decimal(s: &[u8]) -> Number
 }
 
 // Whether a minus stood there, and the place after the sign.
-#[derive(Drop)]
+#[derive(Clone, Copy)]
 pub struct Signed {
     pub minus: bool,
     pub next: usize,
@@ -119,7 +121,7 @@ fn digits_form(s: &[u8], at: usize, minus: bool) -> Number
 }
 
 // Digits: the number that they write, after those before them; how many they are; the place after them.
-#[derive(Drop)]
+#[derive(Clone, Copy)]
 struct Digits {
     value: u64,
     count: usize,
@@ -187,7 +189,7 @@ fn more(value: u64, digit: u64) -> u64
 }
 
 // An exponent: none that reads, one that is not negative, one that is.
-#[derive(Drop)]
+#[derive(Clone, Copy)]
 enum Power {
     NotOne,
     Up(u64),

@@ -75,7 +75,7 @@ fn ten_to(k: u64) -> f64
 }
 
 // The 64 highest bits of a number, by how many places they were moved, and whether anything is left below them.
-#[derive(Drop)]
+#[derive(Clone, Copy)]
 struct Top {
     m: u64,
     t: u64,
@@ -132,7 +132,7 @@ fn up11(m: u64, sticky: bool) -> u64
 }
 
 // A number moved up by s places.
-#[derive(Drop)]
+#[derive(Clone, Copy)]
 struct Moved {
     n: u64,
     s: u64,
@@ -209,7 +209,7 @@ fn twelve(j: u64) -> u64
 }
 
 // A number in two words: hi * 2^64 + lo.
-#[derive(Drop)]
+#[derive(Clone, Copy)]
 struct Wide {
     hi: u64,
     lo: u64,

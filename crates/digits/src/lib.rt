@@ -5,6 +5,8 @@
 // a text will be is told by a `.._length` beside its writer, where the length isn't plain.
 //
 // Years are held as rules holds them: 2024 as 42024.
+#![tactic(auto)]
+
 ghost use Rattle.std.specs.Prelude.{◌≡◌, [], ◌∷◌, ◌+◌, ◌≤◌, ◌<◌, true, not, T, nat_abs, length};
 ghost use Rattle.std.specs.Float.{binary64};
 ghost use Rattle.std.specs.Float.Ieee.{is_nan, to_bits};
@@ -326,7 +328,7 @@ pub fn unix_decimals_length(ms: u64) -> usize
 }
 
 // Some decimal places: `count` of them, which show `value`.
-#[derive(Drop)]
+#[derive(Clone, Copy)]
 struct Places {
     count: usize,
     value: u64,

@@ -27,7 +27,7 @@ pub fn setting(clock: &[u8], offset: &[u8]) -> First
     })
 }
 
-#[derive(Drop)]
+#[derive(Clone, Copy)]
 enum Offset {
     Is(i64),
     Bad,
@@ -56,7 +56,7 @@ fn minus(seconds: u64) -> i64
     -(seconds as i64)
 }
 
-#[derive(Drop)]
+#[derive(Clone, Copy)]
 enum Number {
     Is(u64),
     Bad,

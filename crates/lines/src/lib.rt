@@ -3,6 +3,8 @@
 // "The program reads tab-separated lines: first clock and offset (digits, a minus allowed before the offset), then function (strftime:
 // format next), time value or values, modifiers." Crate rules' `line` says what stands in the lent buffer for each line, and
 // `first_line` what the first one is.
+#![tactic(auto)]
+
 ghost use Rattle.std.specs.Prelude.{◌≡◌, length};
 ghost use Rattle.rules.specs.Calls.{text, answered, after};
 ghost use Rattle.rules.specs.Program as rule;
@@ -31,7 +33,7 @@ pub fn line(set: Setting, s: &[u8], room: &mut [u8; 8192], out: &mut [u8]) -> An
 }
 
 // The first line: a clock and an offset, or "a bad first line".
-#[derive(Drop)]
+#[derive(Clone, Copy)]
 pub enum First {
     Is(Setting),
     Bad,

@@ -6,7 +6,7 @@ ghost use Rattle.lines.specs.Names.{name_of, name_d, name_t};
 
 use rules::Function;
 
-#[derive(Drop)]
+#[derive(Clone, Copy)]
 pub enum Name {
     // one of the five functions of a time value and its modifiers
     General(Function),

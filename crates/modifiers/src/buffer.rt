@@ -4,7 +4,7 @@ ghost use Rattle.text.specs.Places.{Passed};
 ghost use Rattle.modifiers.specs.Buffer.{fault_of, is_byte};
 
 // What refuses a buffer before anything is read: refusal 2, refusal 3, or nothing.
-#[derive(Drop)]
+#[derive(Clone, Copy)]
 pub enum Fault {
     Shape,
     Bytes,

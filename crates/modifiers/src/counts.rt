@@ -41,7 +41,7 @@ pub fn arithmetic(s: &[u8], p: Moment) -> Step
 }
 
 // The milliseconds of the time after a date, where one is; one that does not read; or no date form.
-#[derive(Drop)]
+#[derive(Clone, Copy)]
 enum Clock {
     Is(u64),
     Unread,
@@ -102,7 +102,7 @@ fn unit_after(s: &[u8], at: usize) -> Unit
 
 // How a unit moves, and below which magnitude: by so many milliseconds, or by so many months, of whose fraction a whole unit counts as so
 // many days.
-#[derive(Drop)]
+#[derive(Clone, Copy)]
 enum Scale {
     Length(f64, f64),
     Months(f64, u32, f64),

@@ -3,6 +3,8 @@
 // A modifier is classified once, by its words (words), and what it is takes the record to the next one: a step of a word (steps), or a
 // number of units, a date or a time to move by (counts). Each answer is the record or a refusal, exactly as the rules' `modifier` says.
 // The buffer is tested before anything is read (buffer::fault_of), then walked once; parts of the slice are handed on.
+#![tactic(auto)]
+
 ghost use Rattle.std.specs.Prelude.{◌≡◌, ◌+◌, ◌≤◌, false, length, unsigned_abs};
 ghost use Rattle.rules.specs.Calls.{modifiers, modifiers_bad};
 ghost use Rattle.rules.specs.Modifiers as rule;

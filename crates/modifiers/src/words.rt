@@ -4,7 +4,7 @@ ghost use Rattle.rules.specs.Basics.{if◌then◌else◌, word};
 ghost use Rattle.modifiers.specs.Words.{kind_of, kind_s, kind_u, kind_w, sign_or_digit, unit_of, unit_m};
 
 // What a modifier is.
-#[derive(Drop)]
+#[derive(Clone, Copy)]
 pub enum Kind {
     Auto,
     Julianday,
@@ -105,7 +105,7 @@ fn kind_count(b: u8) -> Kind
 }
 
 // The units of `N unit`.
-#[derive(Drop)]
+#[derive(Clone, Copy)]
 pub enum Unit {
     Day,
     Hour,

@@ -4,6 +4,8 @@
 // Years, milliseconds and zones are held as crate rules says: 2024 as 42024, the millisecond 0 as 2^63, no zone as 1440.
 // A contract says that what comes back is what the rules' step of the same name gives (`held` is the record as the rules have it), that
 // every field stays in its range (`Sane`), and how far the milliseconds have gone after so many modifiers (`After`).
+#![tactic(auto)]
+
 ghost use Rattle.std.specs.Prelude.{◌≡◌, true, ◌-◌, ◌≤◌, ◌<◌};
 ghost use Rattle.rules.specs.Moments as rule;
 ghost use Rattle.rules.specs.Reading as reading;
@@ -18,7 +20,7 @@ use rules::{Refusal, Time, Ymd};
 mod modify;
 mod signs;
 
-#[derive(Drop)]
+#[derive(Clone, Copy)]
 pub struct Moment {
     // milliseconds from noon of -4713-11-24
     pub ms: u64,
@@ -49,7 +51,7 @@ pub struct Moment {
 }
 
 // What comes of a step that may be refused.
-#[derive(Drop)]
+#[derive(Clone, Copy)]
 pub enum Step {
     Next(Moment),
     Refused(Refusal),

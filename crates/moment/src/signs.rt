@@ -6,7 +6,7 @@ ghost use Rattle.rules.specs.Writing.{floor_div};
 ghost use Rattle.moment.specs.Ranges.{ReadYear};
 
 // Back after a minus, else forward, and how far.
-#[derive(Drop)]
+#[derive(Clone, Copy)]
 pub struct Way {
     pub minus: bool,
     pub size: u64,
@@ -37,7 +37,7 @@ pub fn along(minus: bool, size: u32) -> i64
 }
 
 // A month of a year.
-#[derive(Drop)]
+#[derive(Clone, Copy)]
 pub struct YearMonth {
     pub year: u32,
     pub month: u32,

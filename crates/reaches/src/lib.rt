@@ -1,5 +1,7 @@
 // Demand 3 of the code: timediff of A and B, put back as B's only modifier, reaches A. Crate law_putback proves it of the rules' definitions
 // (law_putback/specs/Demand.antt).
+#![tactic(auto)]
+
 ghost use Rattle.std.specs.Prelude.{◌≡◌, ◌-◌, length};
 ghost use Rattle.rules.specs.Calls.{call, strftime, answered, after};
 ghost use Rattle.rules.specs.declared.Function.{Function};

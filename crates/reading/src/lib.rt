@@ -2,6 +2,8 @@
 //
 // A reader at the place `at` of s says what the rules' reader of the same name says of `drop at` of its bytes; where it goes on at `next`,
 // what follows is `drop next`. Zones are held as crate rules says: minutes east of UTC plus 1440.
+#![tactic(auto)]
+
 ghost use Rattle.std.specs.Prelude.{◌≡◌, true, ◌||◌, ◌≤◌, length, drop};
 ghost use Rattle.rules.specs.Basics as rule;
 ghost use Rattle.rules.specs.Basics.{◌or◌};
@@ -22,7 +24,7 @@ const NO_ZONE: u32 = 1440;
 // ---- HH:MM
 
 // An hour, a minute, and the place that follows them; or another form.
-#[derive(Drop)]
+#[derive(Clone, Copy)]
 enum HourMinute {
     Is(u32, u32, usize),
     Other,
@@ -51,7 +53,7 @@ fn hour_minute(s: &[u8], at: usize, most: u32) -> HourMinute
 // ---- a zone
 
 // The minutes that a zone lies from UTC; or another form.
-#[derive(Drop)]
+#[derive(Clone, Copy)]
 enum Minutes {
     Are(u32),
     Other,
@@ -72,7 +74,7 @@ fn hours_minutes(s: &[u8], at: usize) -> Minutes
 }
 
 // A zone as it is held, and whether it says that the time is UTC; or another form.
-#[derive(Drop)]
+#[derive(Clone, Copy)]
 pub enum Zoned {
     Is(u32, bool),
     Other,
@@ -151,7 +153,7 @@ fn fraction(s: &[u8], at: usize) -> Fraction
 }
 
 // Seconds with their fraction, and the place that follows them; or another form.
-#[derive(Drop)]
+#[derive(Clone, Copy)]
 pub enum Second {
     Is(f64, usize),
     Other,
@@ -174,7 +176,7 @@ pub fn seconds(s: &[u8], at: usize) -> Second
 
 // ---- a time of day
 
-#[derive(Drop)]
+#[derive(Clone, Copy)]
 pub enum Daytime {
     Is(Time),
     Other,
@@ -206,7 +208,7 @@ pub fn time(s: &[u8], at: usize) -> Daytime
 // ---- a date
 
 // A year, a month, a day, and the place that follows them; or another form.
-#[derive(Drop)]
+#[derive(Clone, Copy)]
 pub enum YearMonthDay {
     Is(u32, u32, u32, usize),
     Other,
@@ -247,7 +249,7 @@ fn held_year(y: u32, minus: bool) -> u32
 }
 
 // The record that a text of some form reads to; or another form.
-#[derive(Drop)]
+#[derive(Clone, Copy)]
 pub enum Form {
     Is(Moment),
     Other,

@@ -4,6 +4,8 @@
 // A contract is an equation with a definition of crate rules, so it says which operations are made and in what order. How far
 // those lead stands as laws in proofs/: Seconds, Epoch, Units.
 // Milliseconds are held as crate rules says: a u64 that is 2^63 above the count from noon of -4713-11-24.
+#![tactic(auto)]
+
 ghost use Rattle.std.specs.Prelude.{◌≡◌, ◌^◌, ◌<◌, ◌≤◌, true, length};
 ghost use Rattle.std.specs.Float.{binary64};
 ghost use Rattle.std.specs.Float.Ieee.{of_int, minus};
@@ -200,7 +202,7 @@ pub fn julian_real(ms: u64) -> f64
 // ---- the fraction of a second
 
 // The value of some digits, and the place after them.
-#[derive(Drop)]
+#[derive(Clone, Copy)]
 pub struct Fraction {
     pub value: f64,
     pub next: usize,
@@ -258,7 +260,7 @@ const SIGN: u64 = 9223372036854775808;
 const FIELD: u64 = 4503599627370496;
 
 // A magnitude, digits / 2^shift.
-#[derive(Drop)]
+#[derive(Clone, Copy)]
 struct Parts {
     digits: u64,
     shift: u64,

@@ -5,6 +5,8 @@
 // to which the modifiers lead follow from it.
 //
 // Calls and answers are stored as crates/shifts/stdin and stdout. `oracle shifts` in oracle/ makes the calls; the answers are the Rust's.
+#![tactic(auto)]
+
 ghost use Rattle.std.specs.Prelude.{◌≡◌, false, ◌≤◌, nat_abs, length};
 ghost use Rattle.rules.specs.Calls.{modifiers_bad};
 ghost use Rattle.moment.specs.Held.{held};
@@ -22,7 +24,7 @@ const CLOCK_LIMIT: u64 = 253402300799999;
 const OFFSET_LIMIT: u64 = 86399;
 
 // How many bytes of a line are there; whether the first line has been read; and what it said: the clock, and how far west or east.
-#[derive(Drop)]
+#[derive(Clone, Copy)]
 pub struct State {
     pub have: usize,
     pub begun: bool,

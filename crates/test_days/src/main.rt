@@ -3,6 +3,8 @@
 //
 // The file stdout, to which the output must be equal, was not written by this program. It holds what the Rust gives for the same days
 // (`oracle days` in oracle/): if the two are equal, both calendars agree on every day.
+#![tactic(auto)]
+
 ghost use Rattle.std.specs.Prelude.{◌≤◌, ◌<◌};
 ghost use Rattle.calendar.specs.Ranges.{InRange};
 ghost use Rattle.test_days.specs.Reduced.{Reduced};
@@ -23,14 +25,14 @@ const YEAR_0: u32 = 40000;
 
 const YEAR_LOW: u32 = 35200;
 
-#[derive(Drop)]
+#[derive(Clone, Copy)]
 pub struct Digests {
     pub a: u64,
     pub b: u64,
 }
 
 // What was found in a thousand years: the digests, and the first day after them.
-#[derive(Drop)]
+#[derive(Clone, Copy)]
 pub struct Found {
     pub digests: Digests,
     pub next: u32,

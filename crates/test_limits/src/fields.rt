@@ -4,7 +4,7 @@ ghost use Rattle.std.specs.Prelude.{◌≡◌, ◌≤◌, ◌<◌, length};
 use rules::{Given, Setting};
 
 // Which function a line names.
-#[derive(Drop)]
+#[derive(Clone, Copy)]
 pub enum Which {
     Date,
     Time,
@@ -17,7 +17,7 @@ pub enum Which {
 }
 
 // The four fields that every line begins with, and where the fifth begins.
-#[derive(Drop)]
+#[derive(Clone, Copy)]
 pub struct Head {
     pub set: Setting,
     pub room: usize,
@@ -27,41 +27,41 @@ pub struct Head {
 }
 
 // Where a field ends, and where the next one begins.
-#[derive(Drop)]
+#[derive(Clone, Copy)]
 pub struct Field {
     pub end: usize,
     pub next: usize,
 }
 
 // A number, if a field writes one.
-#[derive(Drop)]
+#[derive(Clone, Copy)]
 pub struct Number {
     pub value: u64,
     pub good: bool,
 }
 
-#[derive(Drop)]
+#[derive(Clone, Copy)]
 pub struct SignedNumber {
     pub value: i64,
     pub good: bool,
 }
 
 // Where the bytes of a field end that were laid out, if it writes any.
-#[derive(Drop)]
+#[derive(Clone, Copy)]
 pub struct Laid {
     pub end: usize,
     pub good: bool,
 }
 
 // A kind of time value, if a field writes one.
-#[derive(Drop)]
+#[derive(Clone, Copy)]
 pub struct Kind {
     pub given: Given,
     pub good: bool,
 }
 
 // A time value, and where the bytes beside it end.
-#[derive(Drop)]
+#[derive(Clone, Copy)]
 pub struct Value {
     pub given: Given,
     pub end: usize,
@@ -293,7 +293,7 @@ fn float_of(bits: u64) -> f64 {
 // ---- bytes and time values
 
 // One byte, and where the next is written.
-#[derive(Drop)]
+#[derive(Clone, Copy)]
 struct Byte {
     value: u8,
     next: usize,

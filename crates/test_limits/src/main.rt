@@ -19,6 +19,8 @@
 // `touched`. A line of another form is answered `bad line`.
 //
 // Calls and answers are stored as crates/test_limits/stdin and stdout. `oracle limits` in oracle/ makes both: the answers are the Rust's.
+#![tactic(auto)]
+
 ghost use Rattle.std.specs.Prelude.{◌≤◌, length};
 
 use libc::STDIN_FILENO;
@@ -172,7 +174,7 @@ fn valued(
 }
 
 // Where in `bytes` the format, the first value, and the modifiers or the second value end.
-#[derive(Drop)]
+#[derive(Clone, Copy)]
 pub struct Parts {
     pub format: usize,
     pub value: usize,

@@ -7,6 +7,8 @@
 //     nine     an f64, 16 hex digits  the number with nine decimals
 //
 // Rows and answers are stored as crates/test_numbers/stdin and stdout. oracle/numbers makes both, and its README.md says how.
+#![tactic(auto)]
+
 ghost use Rattle.std.specs.Prelude.{◌≤◌, ◌<◌, length};
 
 use libc::{STDIN_FILENO, STDOUT_FILENO};

@@ -7,6 +7,8 @@
 // Pairs and answers are stored as crates/test_pairs/stdin and stdout. `oracle pairs list` in oracle/ makes the pairs, and the answers are the
 // Rust's. Each A and B is an existing day of years 0 to 9999, written in full and with no zone, as demand 3 has it: so the last two columns
 // are equal on every line.
+#![tactic(auto)]
+
 ghost use Rattle.std.specs.Prelude.{◌≡◌, ◌≤◌, length};
 
 use libc::{STDIN_FILENO, STDOUT_FILENO};
@@ -19,7 +21,7 @@ const CLOCK_LIMIT: u64 = 253402300799999;
 const OFFSET_LIMIT: u64 = 86399;
 
 // How many bytes of a line are there; whether the first line has been read; and what it said.
-#[derive(Drop)]
+#[derive(Clone, Copy)]
 pub struct State {
     pub have: usize,
     pub begun: bool,

@@ -7,6 +7,8 @@
 //
 // With s = "2024-02-29TT 10:00": four_at(s, 0) is Number(2024, 4), has(s, 4, b'-') is true, two_digits(s, 5, 1, 12) is
 // Number(2, 7), skip_gap(s, 10) is 13.
+#![tactic(auto)]
+
 ghost use Rattle.std.specs.Prelude.{◌≡◌, not, ◌+◌, ◌-◌, ◌≤◌, leb, length, drop};
 ghost use Rattle.rules.specs.Basics as rule;
 ghost use Rattle.rules.specs.Reading.{space};
@@ -65,7 +67,7 @@ pub fn has(s: &[u8], at: usize, b: u8) -> bool
 // ---- numbers of a fixed width: the Rust's get_digits, "always full digits"
 
 // A number and the place that follows it; or another form stands there.
-#[derive(Drop)]
+#[derive(Clone, Copy)]
 pub enum Found {
     Number(u32, usize),
     Other,
@@ -199,7 +201,7 @@ pub fn trim_wide(s: &[u8]) -> &[u8]
 }
 
 // The bytes that make up a run.
-#[derive(Drop)]
+#[derive(Clone, Copy)]
 enum Kind {
     Space,
     Wide,

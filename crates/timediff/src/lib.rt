@@ -9,6 +9,8 @@
 // one leads to 02-31, which is 03-03, and both pass; so no month is left, and 29 days. Backward one back-off suffices.
 //
 // A shifted B never leaves the months between B's and A's, so it lies on -4713-11-01 at the earliest. That is below the millisecond 0.
+#![tactic(auto)]
+
 ghost use Rattle.std.specs.Prelude.{◌≡◌, ◌+◌, ◌*◌, ◌/◌, ◌%◌, ◌≤◌, ◌<◌, length};
 ghost use Rattle.rules.specs.Calendar.{day_length, midnight};
 ghost use Rattle.rules.specs.Writing.{wide, month_of};
@@ -20,7 +22,7 @@ use digits::{put_byte, put_four, put_next, put_number, put_three};
 use rules::Ymd;
 
 // What timediff writes: the sign, the months and, in milliseconds, the rest, which is less than 31 days.
-#[derive(Drop)]
+#[derive(Clone, Copy)]
 pub struct Span {
     pub plus: bool,
     pub months: u32,
@@ -28,7 +30,7 @@ pub struct Span {
 }
 
 // Where the back-off stops: the months of the shift, and the instant to which they move B.
-#[derive(Drop)]
+#[derive(Clone, Copy)]
 struct Shift {
     months: u32,
     at: u64,

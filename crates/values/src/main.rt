@@ -5,6 +5,8 @@
 // `refused N`. The milliseconds that a time value reads to follow from either.
 //
 // Values and answers are stored as crates/values/stdin and stdout. `oracle values` in oracle/ makes both: the answers are the Rust's.
+#![tactic(auto)]
+
 ghost use Rattle.std.specs.Prelude.{◌≤◌, length};
 ghost use Rattle.calendar.specs.Ranges.{InRange};
 ghost use Rattle.moment.specs.Held.{held};
@@ -21,7 +23,7 @@ const CLOCK_LIMIT: u64 = 253402300799999;
 const UNIX_EPOCH: u64 = 9223582903614775808;
 
 // How many bytes of a line are there; the clock, and whether it has been read.
-#[derive(Drop)]
+#[derive(Clone, Copy)]
 pub struct State {
     pub have: usize,
     pub clock: u64,

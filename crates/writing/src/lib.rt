@@ -8,6 +8,8 @@
 // - `check` finds the first refusal, or a bound of the text's length, the sum of its letters' bounds;
 // - `format_length` finds the exact length, where the bound has no room;
 // - `put_format` writes the text.
+#![tactic(auto)]
+
 ghost use Rattle.std.specs.Prelude.{true, ◌≡◌, [], ◌∷◌, ◌≤◌, ◌<◌, ◌^◌, length};
 ghost use Rattle.rules.specs.Calendar as rule;
 ghost use Rattle.rules.specs.Writing as text;
@@ -182,7 +184,7 @@ fn unix_length(ms: u64, subsec: bool) -> usize
 // ---- a letter
 
 // Where a text ends; or why there is none.
-#[derive(Drop)]
+#[derive(Clone, Copy)]
 pub enum Put {
     At(usize),
     Refused(Refusal),
@@ -307,7 +309,7 @@ fn letter_length(p: Moment, c: u8) -> usize
 // ---- a format
 
 // An upper bound of a text's length; or why there is none.
-#[derive(Drop)]
+#[derive(Clone, Copy)]
 pub enum Checked {
     Most(usize),
     Refused(Refusal),

@@ -2,12 +2,11 @@
 use mathlib.Core.Path.{◌≡◌, refl}
 use Prim.Native.Nat.{ℕ, suc, ◌+◌, ◌-◌, ◌*◌, ◌/◌, ◌≤◌}
 use native.Mathlib.Omega.{arith}
-use borrow.Author.Rules.{rules}
 use Rattle.rules.specs.Calendar.{minus_year, years, day_of_year, days_to}
 use Rattle.calendar.specs.Ranges.{last_day, Countable}
 use Rattle.calendar.proofs.Years.{closed, days_high}
-use Rattle.calendar.proofs.days_to.Statement.{statement}
-use Rattle.calendar.proofs.days_to.Tie as tie
+use borrow.Author.Rules.{rules}
+use Rattle.calendar.proofs.days_to.Goals as goal
 
 -- the code's sum, with each quotient a variable
 sum : (y Y a b c : ℕ) → b ≤ a → Y + b + 12888312 ≡ 365 * y + a + c → (12888312 ≤ 365 * y + a - b + c) × (365 * y + a - b + c - 12888312 ≡ Y)
@@ -22,43 +21,8 @@ total : (y m d r : ℕ) → Countable y m d → r ≡ day_of_year y m d → let 
 unfolding days_to
 total y m d r h e = rw ((before y h.year_low).1, e) (refl, days_high y m d h)
 
-sub-past : tie.Need-overflow-sub-past
-sub-past c = search rules
+pub overflow_sub-result-2 : goal.overflow_sub-result-2
+overflow_sub-result-2 c = (before _ c.requires.year_low).0
 
-mul-result : tie.Need-overflow-mul-result
-mul-result c = search rules
-
-add-result : tie.Need-overflow-add-result
-add-result c = search rules
-
-sub-result : tie.Need-overflow-sub-result
-sub-result c = search rules
-
-add-result-2 : tie.Need-overflow-add-result-2
-add-result-2 c = search rules
-
-sub-result-2 : tie.Need-overflow-sub-result-2
-sub-result-2 c = (before _ c.requires.year_low).0
-
-day-of-year-requires : tie.Need-day-of-year-requires
-day-of-year-requires c κs = search rules
-
-add-result-3 : tie.Need-overflow-add-result-3
-add-result-3 c = search rules
-
-returns : tie.Need-returns
-returns c = total _ _ _ _ c.before.requires c.day-of-year.ensures.0
-
-pub days-to-spec : {M : Type 1} → statement M
-days-to-spec =
-    tie.close
-    (tie.spec
-    sub-past
-    mul-result
-    add-result
-    sub-result
-    add-result-2
-    sub-result-2
-    day-of-year-requires
-    add-result-3
-    returns)
+pub returns : goal.returns
+returns c = total _ _ _ _ c.requires c.day_of_year.ensures.0

@@ -6,14 +6,13 @@ use Prim.Native.Nat.{ℕ, ◌+◌, ◌-◌, ◌≤◌, ◌<◌}
 use native.Mathlib.Omega.{arith}
 use lib.Dec.{eqb, eqb→eq}
 use lib.ListN.{get_or, take}
-use borrow.Author.Rules.{rules}
 use Rattle.rules.specs.Basics.{if◌then◌else◌}
 use Rattle.rules.specs.Calendar.{leap, common_row, leap_row, month_lengths, sum, before_month, day_of_year}
 use Rattle.calendar.specs.Ranges.{MonthDay}
 use Rattle.calendar.proofs.Below.{below}
 use Rattle.calendar.proofs.Years.{leap_day, leap_le, year_length_lem, before_high, row}
-use Rattle.calendar.proofs.day_of_year.Statement.{statement}
-use Rattle.calendar.proofs.day_of_year.Tie as tie
+use borrow.Author.Rules.{rules}
+use Rattle.calendar.proofs.day_of_year.Goals as goal
 
 abbrev common_before : List ℕ
 common_before = 0 ∷ 31 ∷ 59 ∷ 90 ∷ 120 ∷ 151 ∷ 181 ∷ 212 ∷ 243 ∷ 273 ∷ 304 ∷ 334 ∷ []
@@ -33,48 +32,9 @@ entry y m d r h e =
     let f = rule (leap y) (m - 1) (omega arith) in
     rw (row y r common_before leap_before e) (f, omega (arith, f, before_high y m h.month_low h.month_high, year_length_lem y, leap_le y))
 
-leap-row-requires : tie.Need-leap-row-requires
-leap-row-requires c κs = search rules
+pub overflow_add-result : goal.overflow_add-result
+overflow_add-result c = omega (arith, entry _ _ c.args.day _ c.requires c.leap_row-row.ensures.0)
 
-sub-before : tie.Need-overflow-sub-before
-sub-before c = search rules
-
-mul-result : tie.Need-overflow-mul-result
-mul-result c = search rules
-
-mul-result-2 : tie.Need-overflow-mul-result-2
-mul-result-2 c = search rules
-
-index-1-result : tie.Need-bounds-1-result
-index-1-result c = search rules
-
-index-2-result : tie.Need-bounds-2-result
-index-2-result c = search rules
-
-cast-result : tie.Need-overflow-cast-result
-cast-result c = omega (arith, entry _ _ c.before.before.args.day _ c.before.before.requires c.before.leap-row.ensures.0)
-
-sub-result : tie.Need-overflow-sub-result
-sub-result c = search rules
-
-add-result : tie.Need-overflow-add-result
-add-result c = omega (arith, entry _ _ c.before.before.args.day _ c.before.before.requires c.before.leap-row.ensures.0)
-
-returns : tie.Need-returns
+pub returns : goal.returns
 unfolding day_of_year
-returns c = omega (arith, entry _ _ _ _ c.before.before.requires c.before.leap-row.ensures.0)
-
-pub day-of-year-spec : {M : Type 1} → statement M
-day-of-year-spec =
-    tie.close
-    (tie.spec
-    leap-row-requires
-    sub-before
-    mul-result
-    mul-result-2
-    index-1-result
-    index-2-result
-    cast-result
-    sub-result
-    add-result
-    returns)
+returns c = omega (arith, entry _ _ _ _ c.requires c.leap_row-row.ensures.0)

@@ -1,0 +1,18 @@
+-- `calendar::month_length` meets its contract.
+use mathlib.Core.Path.{◌≡◌, refl}
+use mathlib.Core.List.{[], ◌∷◌}
+use Prim.Native.Nat.{ℕ, ◌-◌, ◌≤◌}
+use native.Mathlib.Omega.{arith}
+use lib.ListN.{get_or}
+use Rattle.rules.specs.Calendar.{month_length, month_lengths, common_row, leap_row}
+use Rattle.calendar.proofs.Years.{leap_day, row, month_low, month_high}
+use borrow.Author.Rules.{rules}
+use Rattle.calendar.proofs.month_length.Goals as goal
+
+-- the code's table is that of the rules
+entry : (y m r : ℕ) → 1 ≤ m → m ≤ 12 → r ≡ leap_day y → let l = get_or (get_or (common_row ∷ leap_row ∷ []) r []) (m - 1) 0 in (l ≡ month_length y m) × (28 ≤ l) × (l ≤ 31)
+unfolding month_length month_lengths
+entry y m r low high e = rw (row y r common_row leap_row e) (refl, month_low y m low high, month_high y m low high)
+
+pub returns : goal.returns
+returns c = entry _ _ _ c.requires.0 c.requires.1 c.leap_row-row.ensures.0

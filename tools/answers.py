@@ -1,0 +1,409 @@
+#!/usr/bin/env python3
+"""Turns the proofs of a crate that walk the code by hand (proofs/F/Proof.antt) into invariants and answers.
+
+    python3 tools/answers.py CRATE NAMES GENERATED
+
+NAMES is the names.json of `rt check --generated .. --old-names`, GENERATED the folder of `rt check --generated .. --start F ..`,
+both run in the crate's folder. What it can't turn it writes as it was, with a line beginning `-- LEFT`.
+"""
+import json
+import os
+import re
+import sys
+
+STOP = r"\s(){}\[\];,\"`«»"
+
+
+def norm(s):
+    return s.replace("-", "_").replace("_lem", "").replace("_", "").lower()
+
+
+class Function:
+    def __init__(self, data, offered, invariants, crate, path):
+        self.d = data
+        self.offered = offered
+        self.invariants = invariants
+        self.crate = crate
+        self.path = path
+        self.places = {p[0]: p for p in data["places"]}
+        self.order = [p[0] for p in data["places"]]
+        self.new_place = dict(zip(self.order, data["places_by_name"]))
+        self.arms = dict(zip(self.order, data["arms"]))
+        self.clauses = dict(zip(self.order, data["clauses"]))
+        self.needs = {norm(a): b for a, b in data["needs"]}
+        self.need_at = {norm(n[0]): at[0] for n, at in zip(data["needs"], data["asked_at"])}
+        self.left = []
+
+    def place(self, name):
+        for p in self.order:
+            if norm(p) == norm(name):
+                return p
+        return None
+
+    def up(self, place, n):
+        for _ in range(n):
+            if place is None:
+                return None
+            place = self.places[place][1]
+        return place
+
+    def chain(self, place):
+        while place:
+            yield place
+            place = self.places[place][1]
+
+    def fields(self, place, rest, what):
+        """The clause's name for the number that begins `rest`."""
+        said = what
+        if not said or not rest:
+            return rest
+        names = said
+        i = 0
+        k = 0
+        while k < len(rest) and rest[k] in ("0", "1"):
+            if rest[k] == "0":
+                return [names[i]] + rest[k + 1 :]
+            i += 1
+            if i == len(names) - 1:
+                return [names[i]] + rest[k + 1 :]
+            k += 1
+        return rest
+
+    def step(self, var, place, befores, parts):
+        """The new path of var.before^n.parts at a place."""
+        at = self.up(place, befores)
+        head = parts[0]
+        if head in ("args", "requires", "ranges", "well_formed", "auto", "utf8", "type_inv"):
+            rest = parts[1:]
+            if head == "requires" and self.d.get("pre"):
+                rest = self.fields("Start", rest, self.d["pre"].get("fields") if isinstance(self.d["pre"], dict) else None)
+            return ".".join([var, head] + rest)
+        for start in ([at] if at else []) + [place]:
+            for p in self.chain(start):
+                info = self.places[p]
+                if norm(info[2][0]) != norm(head):
+                    continue
+                rest = parts[1:]
+                # an arm of which this step is a part
+                best = None
+                for q in self.chain(place):
+                    arm = self.arms.get(q)
+                    if not arm:
+                        continue
+                    for new, old, path in arm[2]:
+                        if norm(old) == norm(info[2][0]) and not new.endswith("-own") and rest[: len(path)] == path:
+                            if best is None or len(path) > len(best[2]):
+                                best = (arm[0], new, path)
+                if best and (best[2] or not rest):
+                    return ".".join([var, best[0], best[1]] + rest[len(best[2]) :])
+                renamed = {a: b for a, b in info[4]}
+                if rest and rest[0] in renamed:
+                    rest = [renamed[rest[0]]] + rest[1:]
+                if rest and rest[0] == "ensures" and self.clauses.get(p):
+                    rest = ["ensures"] + self.fields(p, rest[1:], self.clauses[p]["fields"])
+                if best is None and norm(head).startswith(("enumtold", "enumknown", "knowntold", "sharedslice")):
+                    self.left.append(f"step {head}.{'.'.join(rest)}")
+                return ".".join([var, info[2][1]] + rest)
+        self.left.append("no step " + ".".join([var] + ["before"] * befores + parts))
+        return ".".join([var] + ["before"] * befores + parts)
+
+    def term(self, text, scope, goal):
+        """The term with its paths renamed; scope: variable to place."""
+        scope = dict(scope)
+
+        # aliases of places
+        def alias(m):
+            v, base, befores = m.group(1), m.group(2), m.group(3).count("before")
+            if base in scope:
+                scope[v] = (scope[base][0], self.up(scope[base][1], befores))
+                return ""
+            return m.group(0)
+
+        while True:
+            new = re.sub(r"let (\w+'?) = (\w+'?)((?:\.before)*) in\s*", alias, text, count=1)
+            if new == text:
+                break
+            text = new
+
+        def path(m):
+            whole = m.group(0)
+            parts = whole.split(".")
+            if parts[0] not in scope:
+                return whole
+            var, place = scope[parts[0]]
+            rest = parts[1:]
+            n = 0
+            while n < len(rest) and rest[n] == "before":
+                n += 1
+            rest = rest[n:]
+            if not rest:
+                at = self.up(place, n)
+                if goal is None:
+                    if n == 0 and parts[0] == var:
+                        return var
+                    self.left.append(f"place {whole}")
+                    return f"{var}.{self.new_place.get(at, at)}"
+                return f"(goal.at.{goal} {var}).{self.new_place.get(at, at)}"
+            return self.step(var, place, n, rest)
+
+        return re.sub(r"(?<![^\s(){}\[\];,])[A-Za-z_]\w*'?(?:\.[^%s.]+)*" % STOP, path, text)
+
+
+def trailing_record(body, names):
+    """Turns the tuple that a term ends in into a record with the clauses' names."""
+    text = body.rstrip()
+    if not text.endswith(")"):
+        return None
+    depth = 0
+    for i in range(len(text) - 1, -1, -1):
+        if text[i] == ")":
+            depth += 1
+        elif text[i] == "(":
+            depth -= 1
+            if depth == 0:
+                break
+    before = text[:i].rstrip()
+    if before and not (before.endswith(" in") or before == "" or before.endswith("\n")):
+        return None
+    inner = text[i + 1 : -1]
+
+    def split(s):
+        out, d, last = [], 0, 0
+        for k, ch in enumerate(s):
+            if ch in "([{":
+                d += 1
+            elif ch in ")]}":
+                d -= 1
+            elif ch == "," and d == 0:
+                out.append(s[last:k].strip())
+                last = k + 1
+        out.append(s[last:].strip())
+        return out
+
+    parts = split(inner)
+    while len(parts) < len(names):
+        last = parts[-1]
+        if last.startswith("(") and last.endswith(")"):
+            more = split(last[1:-1])
+            if len(more) == 1:
+                return None
+            parts = parts[:-1] + more
+        else:
+            return None
+    if len(parts) > len(names):
+        k = len(names) - 1
+        parts = parts[:k] + ["(" + ", ".join(parts[k:]) + ")"]
+    rec = "record { " + "; ".join(f"{n} = {p}" for n, p in zip(names, parts)) + " }"
+    return text[:i] + rec
+
+
+def blocks(text):
+    """Comment head, use lines, and declarations (signature and clauses)."""
+    lines = text.split("\n")
+    head, uses, decls = [], [], []
+    i = 0
+    while i < len(lines) and (lines[i].startswith("--") or lines[i] == ""):
+        head.append(lines[i])
+        i += 1
+    cur = []
+    pending = []
+    for line in lines[i:]:
+        if re.match(r"^(use|open|pub use)\s", line):
+            uses.append(line)
+        elif line.startswith("--"):
+            if cur:
+                decls.append(cur)
+                cur = []
+            pending.append(line)
+        elif line == "":
+            if cur:
+                decls.append(cur)
+                cur = []
+        else:
+            if pending:
+                cur += pending
+                pending = []
+            cur.append(line)
+    if cur:
+        decls.append(cur)
+    return head, uses, decls
+
+
+def turn(text, fn, module):
+    head, uses, decls = blocks(text)
+    answers, invs = [], []
+    dropped = []
+    for d in decls:
+        code = [x for x in d if not x.startswith("--")]
+        notes = [x for x in d if x.startswith("--")]
+        sig = code[0]
+        m = re.match(r"^((?:abbrev |pub |unfoldable )*)(\S+) :\s*(.*)$", sig)
+        if not m:
+            answers.append("-- LEFT: not read\n" + "\n".join(d))
+            continue
+        mods, name, kind = m.groups()
+        k = 1
+        while k < len(code) and code[k].startswith("    ") and not re.match(r"^\s*$", code[k]):
+            kind += " " + code[k].strip()
+            k += 1
+        rest = code[k:]
+        if "statement M" in kind:
+            continue
+        inv = re.match(r"tie\.(invariant|decreases)-(\S+)", kind)
+        if inv:
+            loop = inv.group(2)
+            found = None
+            for (old, new), vs in fn.d["loops"]:
+                if norm(old) == norm(loop):
+                    found = (new, vs)
+            if not found:
+                invs.append("-- LEFT: no loop\n" + "\n".join(d))
+                continue
+            new, vs = found
+            nm = f"{inv.group(1)}-{new}"
+            un = [x for x in rest if x.startswith("unfolding")]
+            body = "\n".join(x for x in rest if not x.startswith("unfolding"))
+            mm = re.match(r"^\S+((?:\s+[^\s=]+)*)\s*=\s*(.*)$", body, re.S)
+            params = mm.group(1).split()
+            body = mm.group(2)
+            names = {}
+            for p in params:
+                if p.endswith("₀"):
+                    names[p] = "l.initial." + p[:-1]
+                else:
+                    names[p] = "l." + p
+
+            def sub(m2):
+                parts = m2.group(0).split(".")
+                if parts[0] in names:
+                    return ".".join([names[parts[0]]] + parts[1:])
+                return m2.group(0)
+
+            body = re.sub(r"(?<![^\s(){}\[\];,])[A-Za-z_][\w₀']*(?:\.[^%s.]+)*" % STOP, sub, body)
+            invs.append("\n".join(notes + [f"abbrev pub {nm} : goal.{nm}"] + un + [f"{nm} l = {body}"]))
+            continue
+        need = re.match(r"tie\.Need-(\S+)", kind)
+        if need:
+            key = norm(need.group(1))
+            for pre in ("overflow", "slicebounds", "bounds", "nonzero"):
+                if key not in fn.needs and key.startswith(pre):
+                    key2 = key[len(pre) :]
+                    if key2 in fn.needs:
+                        key = key2
+            if key not in fn.needs:
+                key3 = norm(name)
+                if key3 in fn.needs:
+                    key = key3
+            body = "\n".join(x for x in rest if not x.startswith("unfolding"))
+            un = [x for x in rest if x.startswith("unfolding")]
+            mm = re.match(r"^\S+((?:\s+[^\s=]+)*)\s*=\s*(.*)$", body, re.S)
+            params = mm.group(1).split()
+            body = mm.group(2)
+            plain = body.strip()
+            if plain in ("search rules", "tt"):
+                continue
+            if key not in fn.needs:
+                answers.append(f"-- LEFT: no goal {need.group(1)}\n" + "\n".join("-- " + x for x in d))
+                fn.left.append("no goal " + need.group(1))
+                continue
+            new = fn.needs[key]
+            clauses = [g[len(new) + len("-clause-") :] for g in fn.offered if g.startswith(new + "-clause-")]
+            if new not in fn.offered and not clauses:
+                dropped.append(f"{need.group(1)} -> {new}: not offered: {plain[:80]}")
+                continue
+            place = fn.need_at[key]
+            out = fn.term(body, {params[-1] if len(params) == 1 else params[0]: ("c", place)}, new)
+            if len(params) > 1 and any(re.search(r"(?<![\w])%s(?![\w])" % re.escape(p), out) for p in params[1:]):
+                fn.left.append(f"{new}: uses {params[1:]}")
+            if len(clauses) > 1:
+                rec = trailing_record(out, clauses)
+                if rec is None:
+                    fn.left.append(f"{new}: not a tuple for {clauses}")
+                else:
+                    out = rec
+            answers.append("\n".join(notes + [f"pub {new} : goal.{new}"] + un + [f"{new} c = {out}"]))
+            continue
+        # a lemma of the file
+        tm = re.findall(r"\((\w+'?) : (?:tie|lts)\.(\S+?)((?:\s+[\w.-]+)*)\)", kind)
+        if tm:
+            scope = {}
+            newkind = kind
+            imports = []
+            for v, pl, _ in tm:
+                p = fn.place(pl)
+                if p is None:
+                    fn.left.append(f"lemma {name}: no place {pl}")
+                    continue
+                scope[v] = (v, p)
+                newkind = re.sub(r"\(%s : (?:tie|lts)\.%s(?:\s+[\w.-]+)*\)" % (re.escape(v), re.escape(pl)), f"({v} : goal.{fn.new_place[p]})", newkind)
+            un = [x for x in rest if x.startswith("unfolding")]
+            body = "\n".join(x for x in rest if not x.startswith("unfolding"))
+            newkind = fn.term(newkind, scope, None)
+            # the parameter's name in the clause
+            mm = re.match(r"^(\S+)((?:\s+[^\s=]+)*)\s*=\s*(.*)$", body, re.S)
+            if mm:
+                params = mm.group(2).split()
+                sc = {}
+                if len(tm) == 1 and params:
+                    pos = kind.count("(", 0, kind.index(f"({tm[0][0]} : "))
+                    idx = min(pos, len(params) - 1)
+                    sc = {params[idx]: (params[idx], scope[tm[0][0]][1])} if tm[0][0] in scope else {}
+                body = f"{name}{mm.group(2)} = " + fn.term(mm.group(3), sc, None)
+            answers.append("\n".join(notes + [f"{mods}{name} : {newkind}"] + un + [body]))
+            continue
+        answers.append("\n".join(d))
+    keep = [
+        u
+        for u in uses
+        if not re.search(r"\.(Statement|Tie|Reads|Lts)(\.| as |$)|borrow\.Author\.Rules\.", u)
+    ]
+    return head, keep, answers, invs, dropped
+
+
+def offered(folder):
+    out, inv = [], []
+    for f, l in (("AnswersOffered.antt", out), ("InvariantsOffered.antt", inv)):
+        p = os.path.join(folder, f)
+        if os.path.exists(p):
+            for line in open(p, encoding="utf-8"):
+                m = re.match(r"^(?:abbrev )?pub (\S+) : goal\.", line)
+                if m:
+                    l.append(m.group(1))
+    return out, inv
+
+
+def main():
+    crate, names, generated = sys.argv[1:4]
+    old = sys.argv[4] if len(sys.argv) > 4 else f"crates/{crate}/proofs"
+    data = json.load(open(names, encoding="utf-8"))
+    for top, _, fs in sorted(os.walk(old)):
+        if "Proof.antt" not in fs:
+            continue
+        path = os.path.relpath(top, old)
+        module = path.replace("/", ".")
+        key = f"Rattle-{crate}-proofs.{module}.Lts"
+        if key not in data:
+            print(f"{path}: LEFT no names for {key}")
+            continue
+        gen = os.path.join(generated, f"Rattle-{crate}-proofs", path)
+        off, inv = offered(gen)
+        fn = Function(data[key], off, inv, crate, path)
+        text = open(os.path.join(top, "Proof.antt"), encoding="utf-8").read()
+        head, uses, answers, invs, dropped = turn(text, fn, module)
+        target = f"crates/{crate}/proofs/{path}"
+        os.makedirs(target, exist_ok=True)
+        head = [h for h in head if h.strip()]
+        if invs:
+            with open(f"{target}/Invariants.antt", "w", encoding="utf-8") as f:
+                f.write("\n".join(head + uses + [f"use Rattle.{crate}.proofs.{module}.Given as goal"]) + "\n\n" + "\n\n".join(invs) + "\n")
+        if answers:
+            with open(f"{target}/Answers.antt", "w", encoding="utf-8") as f:
+                f.write("\n".join(head + uses + ["use borrow.Author.Rules.{rules}", f"use Rattle.{crate}.proofs.{module}.Goals as goal"]) + "\n\n" + "\n\n".join(answers) + "\n")
+        for d in dropped:
+            print(f"{path}: dropped {d}")
+        for l in fn.left:
+            print(f"{path}: LEFT {l}")
+
+
+if __name__ == "__main__":
+    main()
