@@ -6,6 +6,7 @@
 NAMES is the names.json of `rt check --generated .. --old-names`, GENERATED the folder of `rt check --generated .. --start F ..`,
 both run in the crate's folder. What it can't turn it writes as it was, with a line beginning `-- LEFT`.
 """
+import difflib
 import json
 import os
 import re
@@ -14,12 +15,20 @@ import sys
 STOP = r"\s(){}\[\];,\"`«»"
 
 
+SAID = {"type-inv": "type_inv", "well-formed": "well_formed"}
+
+
+def close(s):
+    """The bracket of a pair that was read with only one of its ends."""
+    return "" if s.startswith("(") == s.endswith(")") else ")"
+
+
 def norm(s):
     return s.replace("-", "_").replace("_lem", "").replace("_", "").lower()
 
 
 class Function:
-    def __init__(self, data, offered, invariants, crate, path):
+    def __init__(self, data, offered, invariants, crate, path, gen):
         self.d = data
         self.offered = offered
         self.invariants = invariants
@@ -33,6 +42,18 @@ class Function:
         self.needs = {norm(a): b for a, b in data["needs"]}
         self.need_at = {norm(n[0]): at[0] for n, at in zip(data["needs"], data["asked_at"])}
         self.left = []
+        self.answered = {}
+        self.cited = set()
+        self.exported, self.given = exported(gen)
+
+    def key(self, said, name):
+        key = norm(said)
+        for pre in ("overflow", "slicebounds", "bounds", "nonzero"):
+            if key not in self.needs and key.startswith(pre) and key[len(pre) :] in self.needs:
+                key = key[len(pre) :]
+        if key not in self.needs and norm(name) in self.needs:
+            key = norm(name)
+        return key
 
     def place(self, name):
         for p in self.order:
@@ -104,18 +125,23 @@ class Function:
                 if best is None and norm(head).startswith(("enumtold", "enumknown", "knowntold", "sharedslice")):
                     self.left.append(f"step {head}.{'.'.join(rest)}")
                 return ".".join([var, info[2][1]] + rest)
+        known = {norm(self.places[p][2][0]): self.places[p][2][0] for p in self.chain(place) if self.places[p][2][0]}
+        near = difflib.get_close_matches(norm(head), list(known), 1, 0.7)
+        if near and near[0] != norm(head):
+            return self.step(var, place, befores, [known[near[0]]] + parts[1:])
         self.left.append("no step " + ".".join([var] + ["before"] * befores + parts))
         return ".".join([var] + ["before"] * befores + parts)
 
     def term(self, text, scope, goal):
-        """The term with its paths renamed; scope: variable to place."""
-        scope = dict(scope)
+        """The term with its paths renamed; scope: a variable to (what it is written as, its place, how far up that is)."""
+        scope = {v: (x if len(x) == 3 else (x[0], x[1], 0)) for v, x in scope.items()}
 
         # aliases of places
         def alias(m):
             v, base, befores = m.group(1), m.group(2), m.group(3).count("before")
             if base in scope:
-                scope[v] = (scope[base][0], self.up(scope[base][1], befores))
+                w, place, far = scope[base]
+                scope[v] = (w, self.up(place, befores), far + befores)
                 return ""
             return m.group(0)
 
@@ -129,24 +155,32 @@ class Function:
             whole = m.group(0)
             parts = whole.split(".")
             if parts[0] not in scope:
-                return whole
-            var, place = scope[parts[0]]
+                return self.answered.get(whole, whole)
+            var, place, far = scope[parts[0]]
             rest = parts[1:]
             n = 0
             while n < len(rest) and rest[n] == "before":
                 n += 1
-            rest = rest[n:]
+            rest = [SAID.get(x, x) for x in rest[n:]]
             if not rest:
-                at = self.up(place, n)
-                if goal is None:
-                    if n == 0 and parts[0] == var:
-                        return var
-                    self.left.append(f"place {whole}")
-                    return f"{var}.{self.new_place.get(at, at)}"
-                return f"(goal.at.{goal} {var}).{self.new_place.get(at, at)}"
+                # a goal at a place that Goals shows by a view has the walk's record below it
+                view = goal and self.exported.get(self.new_place.get(self.goal_place)) == "View"
+                return ".".join([var] + ["before"] * (far + n + bool(view)))
             return self.step(var, place, n, rest)
 
-        return re.sub(r"(?<![^\s(){}\[\];,])[A-Za-z_]\w*'?(?:\.[^%s.]+)*" % STOP, path, text)
+        text = re.sub(r"(?<![^\s(){}\[\];,])[A-Za-z_][\w-]*'?(?:\.[^%s.]+)*" % STOP, path, text)
+        text = re.sub(r"\(?not-true _ (\S+\.true)-raw\)?", lambda m: m.group(1) + close(m.group(0)), text)
+        text = re.sub(r"\(?not-false _ (\S+\.false)-raw\)?", lambda m: m.group(1) + close(m.group(0)), text)
+        return text
+
+    def place_type(self, pl, more):
+        p = self.place(pl)
+        if p is None:
+            return None
+        if self.arms[p] and self.new_place[p] in self.exported:
+            return "goal." + self.new_place[p]
+        self.cited |= {"lts", "tie", "reads"}
+        return f"lts.{p}" + self.given
 
 
 def trailing_record(body, names):
@@ -197,6 +231,25 @@ def trailing_record(body, names):
     return text[:i] + rec
 
 
+def projected(body, names):
+    """The same for a term that gives a product, or a call's clauses."""
+    cut = body.rfind(" in\n")
+    cut2 = body.rfind(" in ")
+    at = max(cut + 4 if cut >= 0 else 0, cut2 + 4 if cut2 >= 0 else 0)
+    start, last = body[:at], body[at:].strip()
+    if "record {" in last or last.startswith(("elim", "⊎_elim")):
+        return None
+    if re.match(r"^\S+\.ensures$", last):
+        parts = [f"{last}.{n}" for n in names]
+    else:
+        parts = []
+        for i in range(len(names)):
+            parts.append(f"({last})" + ".1" * i + (".0" if i < len(names) - 1 else ""))
+    space = re.search(r"\s*$", start).group(0) if start else ""
+    rec = "record { " + "; ".join(f"{n} = {p}" for n, p in zip(names, parts)) + " }"
+    return start + ("    " if start.endswith("\n") else "") + rec
+
+
 def blocks(text):
     """Comment head, use lines, and declarations (signature and clauses)."""
     lines = text.split("\n")
@@ -233,12 +286,30 @@ def turn(text, fn, module):
     head, uses, decls = blocks(text)
     answers, invs = [], []
     dropped = []
+    own = {}
     for d in decls:
         code = [x for x in d if not x.startswith("--")]
+        if not code:
+            continue
+        m = re.match(r"^((?:abbrev |pub |unfoldable )*)(\S+) :\s*tie\.Need-(\S+)", code[0])
+        if m:
+            key = fn.key(m.group(3), m.group(2))
+            if key in fn.needs:
+                fn.answered[m.group(2)] = fn.needs[key]
+    for d in decls:
+        code = [x for x in d if not x.startswith("--")]
+        if not code:
+            answers.append("\n".join(d))
+            continue
         notes = [x for x in d if x.startswith("--")]
         sig = code[0]
         m = re.match(r"^((?:abbrev |pub |unfoldable )*)(\S+) :\s*(.*)$", sig)
         if not m:
+            r = re.match(r"^(?:pub )?(?:record|data) (\S+)", sig)
+            if r:
+                own[r.group(1)] = "\n".join(d)
+                answers.append("\n".join(d))
+                continue
             answers.append("-- LEFT: not read\n" + "\n".join(d))
             continue
         mods, name, kind = m.groups()
@@ -284,16 +355,7 @@ def turn(text, fn, module):
             continue
         need = re.match(r"tie\.Need-(\S+)", kind)
         if need:
-            key = norm(need.group(1))
-            for pre in ("overflow", "slicebounds", "bounds", "nonzero"):
-                if key not in fn.needs and key.startswith(pre):
-                    key2 = key[len(pre) :]
-                    if key2 in fn.needs:
-                        key = key2
-            if key not in fn.needs:
-                key3 = norm(name)
-                if key3 in fn.needs:
-                    key = key3
+            key = fn.key(need.group(1), name)
             body = "\n".join(x for x in rest if not x.startswith("unfolding"))
             un = [x for x in rest if x.startswith("unfolding")]
             mm = re.match(r"^\S+((?:\s+[^\s=]+)*)\s*=\s*(.*)$", body, re.S)
@@ -312,11 +374,15 @@ def turn(text, fn, module):
                 dropped.append(f"{need.group(1)} -> {new}: not offered: {plain[:80]}")
                 continue
             place = fn.need_at[key]
+            fn.goal_place = place
             out = fn.term(body, {params[-1] if len(params) == 1 else params[0]: ("c", place)}, new)
             if len(params) > 1 and any(re.search(r"(?<![\w])%s(?![\w])" % re.escape(p), out) for p in params[1:]):
                 fn.left.append(f"{new}: uses {params[1:]}")
+            asked = [v for k2, v in fn.d["asked"].items() if norm(k2) == key]
+            if asked and asked[0]:
+                clauses = list(asked[0].values()) if isinstance(asked[0], dict) else asked[0]
             if len(clauses) > 1:
-                rec = trailing_record(out, clauses)
+                rec = trailing_record(out, clauses) or projected(out, clauses)
                 if rec is None:
                     fn.left.append(f"{new}: not a tuple for {clauses}")
                 else:
@@ -324,40 +390,82 @@ def turn(text, fn, module):
             answers.append("\n".join(notes + [f"pub {new} : goal.{new}"] + un + [f"{new} c = {out}"]))
             continue
         # a lemma of the file
-        tm = re.findall(r"\((\w+'?) : (?:tie|lts)\.(\S+?)((?:\s+[\w.-]+)*)\)", kind)
+        tm = re.findall(r"\((\w+'?) : (?:tie|lts)\.([^\s()]+)((?:\s+[\w.-]+)*)\)", kind)
+        if not tm and re.match(r"(?:tie|lts)\.[^\s()]+ → ", kind):
+            first = re.match(r"(?:tie|lts)\.([^\s()]+) → ", kind).group(1)
+            tp = fn.place_type(first, "")
+            if tp:
+                kind = tp + kind[kind.index(" → ") :]
         if tm:
             scope = {}
             newkind = kind
-            imports = []
-            for v, pl, _ in tm:
-                p = fn.place(pl)
-                if p is None:
-                    fn.left.append(f"lemma {name}: no place {pl}")
+            for v, pl, more in tm:
+                tp = fn.place_type(pl, more)
+                if tp is None:
+                    fn.left.append(f"lemma {name}: no place {pl}{more}")
                     continue
-                scope[v] = (v, p)
-                newkind = re.sub(r"\(%s : (?:tie|lts)\.%s(?:\s+[\w.-]+)*\)" % (re.escape(v), re.escape(pl)), f"({v} : goal.{fn.new_place[p]})", newkind)
+                scope[v] = (v, fn.place(pl))
+                newkind = newkind.replace(f"({v} : tie.{pl}{more})", f"({v} : {tp})").replace(f"({v} : lts.{pl}{more})", f"({v} : {tp})")
             un = [x for x in rest if x.startswith("unfolding")]
             body = "\n".join(x for x in rest if not x.startswith("unfolding"))
             newkind = fn.term(newkind, scope, None)
-            # the parameter's name in the clause
             mm = re.match(r"^(\S+)((?:\s+[^\s=]+)*)\s*=\s*(.*)$", body, re.S)
             if mm:
                 params = mm.group(2).split()
                 sc = {}
-                if len(tm) == 1 and params:
-                    pos = kind.count("(", 0, kind.index(f"({tm[0][0]} : "))
+                if params and tm[0][0] in scope:
+                    pos = len(re.findall(r"\((?:[^()]| )*? : ", kind[: kind.index(f"({tm[0][0]} : ")]))
                     idx = min(pos, len(params) - 1)
-                    sc = {params[idx]: (params[idx], scope[tm[0][0]][1])} if tm[0][0] in scope else {}
+                    sc = {params[idx]: (params[idx], scope[tm[0][0]][1])}
                 body = f"{name}{mm.group(2)} = " + fn.term(mm.group(3), sc, None)
             answers.append("\n".join(notes + [f"{mods}{name} : {newkind}"] + un + [body]))
             continue
+        own[name] = "\n".join(d)
         answers.append("\n".join(d))
     keep = [
         u
         for u in uses
         if not re.search(r"\.(Statement|Tie|Reads|Lts)(\.| as |$)|borrow\.Author\.Rules\.", u)
     ]
+    # what the invariants speak of stands with them
+    moved = []
+    todo = list(invs)
+    while todo:
+        text = todo.pop()
+        for n, t in own.items():
+            if n not in moved and re.search(r"(?<![^\s(){}\[\];,.])%s(?![^\s(){}\[\];,.])" % re.escape(n), text):
+                moved.append(n)
+                todo.append(t)
+    front = []
+    for n, t in own.items():
+        if n in moved:
+            answers.remove(t)
+            lines = t.split("\n")
+            k = next(i for i, x in enumerate(lines) if not x.startswith("--"))
+            if not re.match(r"^(abbrev )?pub ", lines[k]):
+                lines[k] = re.sub(r"^(abbrev |unfoldable )?", lambda m: (m.group(1) or "") + "pub ", lines[k])
+            if re.match(r"^pub (record|data)", lines[k]):
+                lines = [re.sub(r"^  (?=[\w' ]+ : )", "  pub ", x) if lines[k].startswith("pub record") else x for x in lines]
+            front.append("\n".join(lines))
+    invs = front + invs
+    fn.moved = [n for n in own if n in moved]
     return head, keep, answers, invs, dropped
+
+
+def exported(folder):
+    """The places that Goals names, and what the walk's records are given."""
+    p = os.path.join(folder, "Goals.antt")
+    if not os.path.exists(p):
+        return {}, ""
+    text = open(p, encoding="utf-8").read()
+    names = {m.group(1): m.group(2) for m in re.finditer(r"^abbrev pub (\S+) : Type 0\n\1 =\s+(View|Lts)\.", text, re.M)}
+    flat = re.sub(r"\s+", " ", text)
+    best = ""
+    for m in re.finditer(r"(?:View|Lts)\.\S+((?: Tie\.the-claims)? Reads\.Pre Reads\.Post(?: the-[^\s()]+)*(?: Tie\.handed_clauses)?)", flat):
+        if len(m.group(1)) > len(best):
+            best = m.group(1)
+    given = best.replace(" Tie.", " tie.").replace(" Reads.", " reads.").replace(" the-invariant", " goal.the-invariant").replace(" the-decreases", " goal.the-decreases")
+    return names, given
 
 
 def offered(folder):
@@ -366,7 +474,7 @@ def offered(folder):
         p = os.path.join(folder, f)
         if os.path.exists(p):
             for line in open(p, encoding="utf-8"):
-                m = re.match(r"^(?:abbrev )?pub (\S+) : goal\.", line)
+                m = re.match(r"^(?:abbrev )?pub (\S+) :(?: goal\.|$)", line)
                 if m:
                     l.append(m.group(1))
     return out, inv
@@ -387,7 +495,7 @@ def main():
             continue
         gen = os.path.join(generated, f"Rattle-{crate}-proofs", path)
         off, inv = offered(gen)
-        fn = Function(data[key], off, inv, crate, path)
+        fn = Function(data[key], off, inv, crate, path, gen)
         text = open(os.path.join(top, "Proof.antt"), encoding="utf-8").read()
         head, uses, answers, invs, dropped = turn(text, fn, module)
         target = f"crates/{crate}/proofs/{path}"
@@ -398,7 +506,13 @@ def main():
                 f.write("\n".join(head + uses + [f"use Rattle.{crate}.proofs.{module}.Given as goal"]) + "\n\n" + "\n\n".join(invs) + "\n")
         if answers:
             with open(f"{target}/Answers.antt", "w", encoding="utf-8") as f:
-                f.write("\n".join(head + uses + ["use borrow.Author.Rules.{rules}", f"use Rattle.{crate}.proofs.{module}.Goals as goal"]) + "\n\n" + "\n\n".join(answers) + "\n")
+                more = [f"use Rattle.{crate}.proofs.{module}.Goals as goal"]
+                for w, name in (("tie", "Tie"), ("lts", "Lts"), ("reads", "Reads")):
+                    if w in fn.cited:
+                        more.append(f"use Rattle.{crate}.proofs.{module}.{name} as {w}")
+                if fn.moved:
+                    more.append(f"use Rattle.{crate}.proofs.{module}.Invariants.{{{', '.join(fn.moved)}}}")
+                f.write("\n".join(head + uses + ["use borrow.Author.Rules.{rules}"] + more) + "\n\n" + "\n\n".join(answers) + "\n")
         for d in dropped:
             print(f"{path}: dropped {d}")
         for l in fn.left:

@@ -38,8 +38,8 @@ fn answer_lines(
     out: &mut [u8],
     used: usize,
 ) -> Place
-    requires fact_1 { at ≤ length block.now }
-    requires fact_2 { used ≤ length out.old }
+    requires at_in { at ≤ length block.now }
+    requires used_in { used ≤ length out.old }
     ensures { Answers set block.now at used out.old out.new result }
 {
     let mut from = at;
@@ -167,8 +167,8 @@ fn take_from(
     room: &mut [u8; 8192],
     out: &mut [u8],
 ) -> Run
-    requires fact_1 { Within t kept.old out.old }
-    requires fact_2 { from ≤ length block.now }
+    requires within { Within t kept.old out.old }
+    requires from_in { from ≤ length block.now }
     ensures within { Within result kept.new out.new }
     ensures holds { Holds result kept.new (last_from block.now from) }
 {
@@ -234,8 +234,8 @@ fn close(t: Run, kept: &[u8], room: &mut [u8; 8192], out: &mut [u8]) -> Run
 
 // Writes the output out where an answer might find no room.
 fn make_room(t: Run, out: &[u8]) -> Run
-    requires fact_1 { t.used ≤ length out.now }
-    requires fact_2 { 16384 < length out.now }
+    requires used_in { t.used ≤ length out.now }
+    requires holds_answer { 16384 < length out.now }
     ensures { Same t result × HasRoom result out.now }
 {
     let used = t.used;

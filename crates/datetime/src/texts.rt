@@ -101,9 +101,9 @@ pub fn formatted(p: Moment, format: &[u8], out: &mut [u8]) -> Answer
 
 // A format that is let through, in room that suffices.
 fn put(p: Moment, format: &[u8], out: &mut [u8]) -> Answer
-    requires fact_1 { Full (held p) }
-    requires fact_2 { IsText (rule.formatted (held p) format.now) }
-    requires fact_3 { Room out.old 0 (text_of (rule.formatted (held p) format.now)) }
+    requires full { Full (held p) }
+    requires is_text { IsText (rule.formatted (held p) format.now) }
+    requires room { Room out.old 0 (text_of (rule.formatted (held p) format.now)) }
     ensures { Gives (formatted_of (held p) format.now) out.old out.new result }
 {
     match writing::put_format(out, 0, p, format) {

@@ -29,8 +29,8 @@ pub fn put_byte(buf: &mut [u8], at: usize, b: u8) -> usize
 
 // One digit, for a number below 10.
 pub fn put_one(buf: &mut [u8], at: usize, v: u32) -> usize
-    requires fact_1 { v < 10 }
-    requires fact_2 { Room buf.old at (text.wide 1 v) }
+    requires few_digits { v < 10 }
+    requires room { Room buf.old at (text.wide 1 v) }
     ensures { Laid buf.old at (text.wide 1 v) buf.new result }
 {
     buf[at] = (48 + v) as u8;
@@ -39,8 +39,8 @@ pub fn put_one(buf: &mut [u8], at: usize, v: u32) -> usize
 
 // Two digits, for a number below 100.
 pub fn put_two(buf: &mut [u8], at: usize, v: u32) -> usize
-    requires fact_1 { v < 100 }
-    requires fact_2 { Room buf.old at (text.wide 2 v) }
+    requires few_digits { v < 100 }
+    requires room { Room buf.old at (text.wide 2 v) }
     ensures { Laid buf.old at (text.wide 2 v) buf.new result }
 {
     buf[at] = (48 + v / 10) as u8;
@@ -50,8 +50,8 @@ pub fn put_two(buf: &mut [u8], at: usize, v: u32) -> usize
 
 // A byte and two digits, as `-05` or `:07`.
 pub fn put_next(buf: &mut [u8], at: usize, b: u8, v: u32) -> usize
-    requires fact_1 { v < 100 }
-    requires fact_2 { Room buf.old at (b ∷ text.wide 2 v) }
+    requires few_digits { v < 100 }
+    requires room { Room buf.old at (b ∷ text.wide 2 v) }
     ensures { Laid buf.old at (b ∷ text.wide 2 v) buf.new result }
 {
     let digits = put_byte(buf, at, b);
@@ -60,8 +60,8 @@ pub fn put_next(buf: &mut [u8], at: usize, b: u8, v: u32) -> usize
 
 // Three digits, for a number below 1000.
 pub fn put_three(buf: &mut [u8], at: usize, v: u32) -> usize
-    requires fact_1 { v < 1000 }
-    requires fact_2 { Room buf.old at (text.wide 3 v) }
+    requires few_digits { v < 1000 }
+    requires room { Room buf.old at (text.wide 3 v) }
     ensures { Laid buf.old at (text.wide 3 v) buf.new result }
 {
     let rest = put_one(buf, at, v / 100);
@@ -70,8 +70,8 @@ pub fn put_three(buf: &mut [u8], at: usize, v: u32) -> usize
 
 // Four digits, for a number below 10000.
 pub fn put_four(buf: &mut [u8], at: usize, v: u32) -> usize
-    requires fact_1 { v < 10000 }
-    requires fact_2 { Room buf.old at (text.wide 4 v) }
+    requires few_digits { v < 10000 }
+    requires room { Room buf.old at (text.wide 4 v) }
     ensures { Laid buf.old at (text.wide 4 v) buf.new result }
 {
     let rest = put_two(buf, at, v / 100);
@@ -173,8 +173,8 @@ fn hex_digit(d: u64) -> u8
 
 // An f64 as the 16 hexadecimal digits of its bits, "highest first".
 pub fn put_hex(buf: &mut [u8], at: usize, x: f64) -> usize
-    requires fact_1 { T (not (is_nan x)) }
-    requires fact_2 { Room buf.old at (hex 16 (to_bits binary64 x)) }
+    requires not_nan { T (not (is_nan x)) }
+    requires room { Room buf.old at (hex 16 (to_bits binary64 x)) }
     ensures { Laid buf.old at (hex 16 (to_bits binary64 x)) buf.new result }
 {
     let mut left = 16;
@@ -189,8 +189,8 @@ pub fn put_hex(buf: &mut [u8], at: usize, x: f64) -> usize
 
 // A number below 100 in two places, with a space for a leading zero.
 pub fn put_spaced(buf: &mut [u8], at: usize, v: u32) -> usize
-    requires fact_1 { v < 100 }
-    requires fact_2 { Room buf.old at (text.spaced v) }
+    requires few_digits { v < 100 }
+    requires room { Room buf.old at (text.spaced v) }
     ensures { Laid buf.old at (text.spaced v) buf.new result }
 {
     if v < 10 {
@@ -205,8 +205,8 @@ const YEAR_0: u32 = 40000;
 
 // A year up to 9999 in four digits; before the year 0, a minus and at least k.
 pub fn put_year(buf: &mut [u8], at: usize, k: usize, year: u32) -> usize
-    requires fact_1 { year ≤ 49999 }
-    requires fact_2 { Room buf.old at (text.signed_year k year) }
+    requires year_in { year ≤ 49999 }
+    requires room { Room buf.old at (text.signed_year k year) }
     ensures { Laid buf.old at (text.signed_year k year) buf.new result }
 {
     if year >= YEAR_0 {
@@ -217,8 +217,8 @@ pub fn put_year(buf: &mut [u8], at: usize, k: usize, year: u32) -> usize
 
 // How many bytes `put_year` takes.
 pub fn year_length(k: usize, year: u32) -> usize
-    requires fact_1 { k ≤ 20 }
-    requires fact_2 { year ≤ 49999 }
+    requires few_places { k ≤ 20 }
+    requires year_in { year ≤ 49999 }
     ensures { result ≡ length (text.signed_year k year) }
 {
     if year >= YEAR_0 {
@@ -267,8 +267,8 @@ pub fn put_point(buf: &mut [u8], at: usize, t: u64) -> usize
 
 // The seconds of a time of day, cut to whole ones, in two digits.
 pub fn put_second(buf: &mut [u8], at: usize, second: f64) -> usize
-    requires fact_1 { in_minute second ≡ true }
-    requires fact_2 { Room buf.old at (text.second_text second) }
+    requires second_in { in_minute second ≡ true }
+    requires room { Room buf.old at (text.second_text second) }
     ensures { Laid buf.old at (text.second_text second) buf.new result }
 {
     put_two(buf, at, real::whole(second) as u32)
@@ -276,8 +276,8 @@ pub fn put_second(buf: &mut [u8], at: usize, second: f64) -> usize
 
 // The seconds of a time of day: "three decimals of the f64, ties to even".
 pub fn put_second_decimals(buf: &mut [u8], at: usize, second: f64) -> usize
-    requires fact_1 { in_minute second ≡ true }
-    requires fact_2 { Room buf.old at (text.three_decimals 2 second) }
+    requires second_in { in_minute second ≡ true }
+    requires room { Room buf.old at (text.three_decimals 2 second) }
     ensures { Laid buf.old at (text.three_decimals 2 second) buf.new result }
 {
     let t = real::thousandths(second);
@@ -290,8 +290,8 @@ const UNIX_EPOCH: u64 = 9223582903614775808;
 
 // The seconds since the Unix epoch, as an f64, in thousandths and without their sign.
 fn unix_thousandths(ms: u64) -> u64
-    requires fact_1 { instant 0 ≤ ms }
-    requires fact_2 { ms ≤ last }
+    requires not_before { instant 0 ≤ ms }
+    requires not_after { ms ≤ last }
     ensures { result ≡ decimals 3 (text.unix_real ms) }
 {
     real::thousandths(real::unix_real(ms))
@@ -299,9 +299,9 @@ fn unix_thousandths(ms: u64) -> u64
 
 // The seconds since the Unix epoch, as an f64, with three decimals.
 pub fn put_unix_decimals(buf: &mut [u8], at: usize, ms: u64) -> usize
-    requires fact_1 { instant 0 ≤ ms }
-    requires fact_2 { ms ≤ last }
-    requires fact_3 { Room buf.old at (unix_decimals ms) }
+    requires not_before { instant 0 ≤ ms }
+    requires not_after { ms ≤ last }
+    requires room { Room buf.old at (unix_decimals ms) }
     ensures { Laid buf.old at (unix_decimals ms) buf.new result }
 {
     let t = unix_thousandths(ms);
@@ -315,8 +315,8 @@ pub fn put_unix_decimals(buf: &mut [u8], at: usize, ms: u64) -> usize
 
 // How many bytes `put_unix_decimals` takes.
 pub fn unix_decimals_length(ms: u64) -> usize
-    requires fact_1 { instant 0 ≤ ms }
-    requires fact_2 { ms ≤ last }
+    requires not_before { instant 0 ≤ ms }
+    requires not_after { ms ≤ last }
     ensures { result ≡ length (unix_decimals ms) }
 {
     let t = unix_thousandths(ms);
@@ -352,8 +352,8 @@ fn trimmed(n: u64) -> Places
 
 // The Julian day, as an f64, in units of 10^-9.
 fn julian_billionths(ms: u64) -> u64
-    requires fact_1 { instant 86400000000000 ≤ ms }
-    requires fact_2 { ms ≤ last }
+    requires not_before { instant 86400000000000 ≤ ms }
+    requires not_after { ms ≤ last }
     ensures { result ≡ decimals 9 (text.julian_real ms) }
 {
     real::billionths(real::julian_real(ms))
@@ -361,9 +361,9 @@ fn julian_billionths(ms: u64) -> u64
 
 // The Julian day: "nine decimals of the f64, ties to even, trailing zeros and point dropped". From 86400000000000 ms on.
 pub fn put_julian(buf: &mut [u8], at: usize, ms: u64) -> usize
-    requires fact_1 { instant 86400000000000 ≤ ms }
-    requires fact_2 { ms ≤ last }
-    requires fact_3 { Room buf.old at (text.julian_text ms) }
+    requires not_before { instant 86400000000000 ≤ ms }
+    requires not_after { ms ≤ last }
+    requires room { Room buf.old at (text.julian_text ms) }
     ensures { Laid buf.old at (text.julian_text ms) buf.new result }
 {
     let n = julian_billionths(ms);
@@ -378,8 +378,8 @@ pub fn put_julian(buf: &mut [u8], at: usize, ms: u64) -> usize
 
 // How many bytes `put_julian` takes.
 pub fn julian_length(ms: u64) -> usize
-    requires fact_1 { instant 86400000000000 ≤ ms }
-    requires fact_2 { ms ≤ last }
+    requires not_before { instant 86400000000000 ≤ ms }
+    requires not_after { ms ≤ last }
     ensures { result ≡ length (text.julian_text ms) }
 {
     let n = julian_billionths(ms);

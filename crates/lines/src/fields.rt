@@ -56,8 +56,8 @@ pub fn lay_modifiers(s: &[u8], end: usize, room: &mut [u8]) -> usize
 
 // Those from a place on: each tab becomes a zero byte, and one more ends the last.
 fn lay_from(s: &[u8], from: usize, room: &mut [u8]) -> usize
-    requires fact_1 { from ≤ length s.now }
-    requires fact_2 { length s.now - from < length room.old }
+    requires from_in { from ≤ length s.now }
+    requires has_room { length s.now - from < length room.old }
     ensures { Laid room.old 0 (buffered (parts is_tab (drop from s.now))) room.new result }
 {
     let n = s.len() - from;

@@ -85,8 +85,8 @@ pub fn time_ms(hour: u32, minute: u32, second: f64) -> u64
 // The instant of a date and a time of day in a zone. No zone, held as 1440 minutes, is 86400000 ms. It takes numbers, and has two callers: so
 // it stays a function, counting around it is inlined, and records stay in registers (docs/SPEED.md).
 fn instant(year: u32, month: u32, day: u32, hour: u32, minute: u32, second: f64, zone: u32) -> u64
-    requires fact_1 { Countable year month day }
-    requires fact_2 { TimeIn hour minute true second zone }
+    requires countable { Countable year month day }
+    requires time_in { TimeIn hour minute true second zone }
     ensures { result ≡ civil_instant year month day hour minute second zone }
 {
     let local = calendar::midnight(year, month, day) + time_ms(hour, minute, second);

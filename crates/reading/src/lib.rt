@@ -332,8 +332,8 @@ fn number_value(s: &[u8], clock: u64) -> Step
 
 // "Tried in order: `[-]YYYY-MM-DD` with optional time; a time alone (date 2000-01-01); `now`; a decimal; `subsec` or `subsecond`. Words in either case."
 pub fn text_value(s: &[u8], clock: u64) -> Step
-    requires fact_1 { length s.now ≤ 255 }
-    requires fact_2 { clock ≤ 253402300799999 }
+    requires short { length s.now ≤ 255 }
+    requires clock_in { clock ≤ 253402300799999 }
     ensures result_value { read_of result ≡ reading.text_value clock s.now }
     ensures lands { Lands (After 0) result }
 {
@@ -351,8 +351,8 @@ pub fn text_value(s: &[u8], clock: u64) -> Step
 
 // "A time value is absent (read as `now`; ..), null, bytes, a 64-bit signed integer or an f64." The bytes stand in s.
 pub fn time_value(given: Given, s: &[u8], clock: u64) -> Step
-    requires fact_1 { length (bytes_of (value_of given s.now)) ≤ 255 }
-    requires fact_2 { clock ≤ 253402300799999 }
+    requires short { length (bytes_of (value_of given s.now)) ≤ 255 }
+    requires clock_in { clock ≤ 253402300799999 }
     ensures result_value { read_of result ≡ reading.time_value clock (value_of given s.now) }
     ensures lands { Lands (After 0) result }
 {

@@ -192,8 +192,8 @@ pub fn unix_real(ms: u64) -> f64
 
 // Days from noon of -4713-11-24, for milliseconds from 0 to the last.
 pub fn julian_real(ms: u64) -> f64
-    requires fact_1 { instant 0 ≤ ms }
-    requires fact_2 { ms ≤ last }
+    requires not_before { instant 0 ≤ ms }
+    requires not_after { ms ≤ last }
     ensures { result ≡ julian_real ms }
 {
     (ms - START) as f64 / 86400000.0
@@ -238,9 +238,9 @@ pub fn fraction_at(s: &[u8], at: usize) -> Fraction
 
 // n / p to the nearest whole number, ties to even.
 fn nearest(n: u64, p: u64) -> u64
-    requires fact_1 { n < 2 ^ 63 }
-    requires fact_2 { 0 < p }
-    requires fact_3 { p ≤ 2 ^ 63 }
+    requires n_in { n < 2 ^ 63 }
+    requires p_above { 0 < p }
+    requires p_in { p ≤ 2 ^ 63 }
     ensures { result ≡ closest n p }
 {
     let q = n / p;

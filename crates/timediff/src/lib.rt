@@ -149,8 +149,8 @@ fn put_months(buf: &mut [u8], at: usize, plus: bool, months: u32) -> usize
 
 // The days and the time: `-03 04:05:06.789`.
 fn put_rest(buf: &mut [u8], at: usize, rest: u32) -> usize
-    requires fact_1 { rest < 31 * day_length }
-    requires fact_2 { Room buf.old at (rest_part rest) }
+    requires rest_in { rest < 31 * day_length }
+    requires room { Room buf.old at (rest_part rest) }
     ensures { Laid buf.old at (rest_part rest) buf.new result }
 {
     let before_hour = put_next(buf, at, b'-', rest / 86400000);
@@ -163,8 +163,8 @@ fn put_rest(buf: &mut [u8], at: usize, rest: u32) -> usize
 
 // The text of a span. Its rest, less than 31 days, fits 32 bits.
 pub fn put_span(buf: &mut [u8], at: usize, s: Span) -> usize
-    requires fact_1 { Writable s }
-    requires fact_2 { Room buf.old at (span_text s) }
+    requires writable { Writable s }
+    requires room { Room buf.old at (span_text s) }
     ensures { Laid buf.old at (span_text s) buf.new result }
 {
     let days = put_months(buf, at, s.plus, s.months);

@@ -33,8 +33,8 @@ use rules::Refusal;
 
 // A date. Before the year 0 it has a minus and at least k digits of the year.
 fn put_ymd(buf: &mut [u8], at: usize, k: usize, year: u32, month: u32, day: u32) -> usize
-    requires fact_1 { (year ≤ 49999) × (month < 100) × (day < 100) }
-    requires fact_2 { Room buf.old at (date_of k year month day) }
+    requires date_in { (year ≤ 49999) × (month < 100) × (day < 100) }
+    requires room { Room buf.old at (date_of k year month day) }
     ensures { Laid buf.old at (date_of k year month day) buf.new result }
 {
     let before_month = put_year(buf, at, k, year);
@@ -44,8 +44,8 @@ fn put_ymd(buf: &mut [u8], at: usize, k: usize, year: u32, month: u32, day: u32)
 
 // `HH:MM`.
 fn put_clock(buf: &mut [u8], at: usize, hour: u32, minute: u32) -> usize
-    requires fact_1 { (hour < 100) × (minute < 100) }
-    requires fact_2 { Room buf.old at (clock_of hour minute) }
+    requires time_in { (hour < 100) × (minute < 100) }
+    requires room { Room buf.old at (clock_of hour minute) }
     ensures { Laid buf.old at (clock_of hour minute) buf.new result }
 {
     let before_minute = put_two(buf, at, hour);
@@ -54,8 +54,8 @@ fn put_clock(buf: &mut [u8], at: usize, hour: u32, minute: u32) -> usize
 
 // `HH:MM:SS`.
 fn put_whole_time(buf: &mut [u8], at: usize, hour: u32, minute: u32, second: f64) -> usize
-    requires fact_1 { (hour < 100) × (minute < 100) × (in_minute second ≡ true) }
-    requires fact_2 { Room buf.old at (whole_time hour minute second) }
+    requires time_in { (hour < 100) × (minute < 100) × (in_minute second ≡ true) }
+    requires room { Room buf.old at (whole_time hour minute second) }
     ensures { Laid buf.old at (whole_time hour minute second) buf.new result }
 {
     let colon = put_clock(buf, at, hour, minute);
@@ -65,8 +65,8 @@ fn put_whole_time(buf: &mut [u8], at: usize, hour: u32, minute: u32, second: f64
 
 // `HH:MM:SS.SSS`.
 fn put_decimal_time(buf: &mut [u8], at: usize, hour: u32, minute: u32, second: f64) -> usize
-    requires fact_1 { (hour < 100) × (minute < 100) × (in_minute second ≡ true) }
-    requires fact_2 { Room buf.old at (decimal_time hour minute second) }
+    requires time_in { (hour < 100) × (minute < 100) × (in_minute second ≡ true) }
+    requires room { Room buf.old at (decimal_time hour minute second) }
     ensures { Laid buf.old at (decimal_time hour minute second) buf.new result }
 {
     let colon = put_clock(buf, at, hour, minute);
@@ -76,8 +76,8 @@ fn put_decimal_time(buf: &mut [u8], at: usize, hour: u32, minute: u32, second: f
 
 // The text of `date`.
 pub fn put_date(buf: &mut [u8], at: usize, p: Moment) -> usize
-    requires fact_1 { Printable (held p) }
-    requires fact_2 { Room buf.old at (text.date_text (held p)) }
+    requires printable { Printable (held p) }
+    requires room { Room buf.old at (text.date_text (held p)) }
     ensures { Laid buf.old at (text.date_text (held p)) buf.new result }
 {
     put_ymd(buf, at, 4, p.year, p.month, p.day)
@@ -93,8 +93,8 @@ pub fn date_length(p: Moment) -> usize
 
 // The text of `time`: "Seconds with subsec: three decimals of the f64, ties to even."
 pub fn put_time(buf: &mut [u8], at: usize, p: Moment) -> usize
-    requires fact_1 { Printable (held p) }
-    requires fact_2 { Room buf.old at (text.time_text (held p)) }
+    requires printable { Printable (held p) }
+    requires room { Room buf.old at (text.time_text (held p)) }
     ensures { Laid buf.old at (text.time_text (held p)) buf.new result }
 {
     if p.subsec {
@@ -160,8 +160,8 @@ fn iso_year(ms: u64) -> u32
 
 // The seconds since the Unix epoch.
 fn put_unix(buf: &mut [u8], at: usize, ms: u64, subsec: bool) -> usize
-    requires fact_1 { InRange ms }
-    requires fact_2 { Room buf.old at (unix_of subsec ms) }
+    requires in_range { InRange ms }
+    requires room { Room buf.old at (unix_of subsec ms) }
     ensures { Laid buf.old at (unix_of subsec ms) buf.new result }
 {
     if subsec {
@@ -195,8 +195,8 @@ const EARLY: u64 = 9223458436854775808;
 
 // The Julian day. 6: "`%J` is met with under 86400000000000 ms".
 fn put_julian_day(buf: &mut [u8], at: usize, ms: u64) -> Put
-    requires fact_1 { InRange ms }
-    requires fact_2 { Room buf.old at (text_of (text.julian_letter ms)) }
+    requires in_range { InRange ms }
+    requires room { Room buf.old at (text_of (text.julian_letter ms)) }
     ensures { PutIs (text.julian_letter ms) buf.old at buf.new result }
 {
     if ms < EARLY {
@@ -207,8 +207,8 @@ fn put_julian_day(buf: &mut [u8], at: usize, ms: u64) -> Put
 
 // "Twenty-six letters and the percent sign are read after a `%` .. Another letter .. gives 1."
 fn put_letter(buf: &mut [u8], at: usize, p: Moment, c: u8) -> Put
-    requires fact_1 { Printable (held p) }
-    requires fact_2 { Room buf.old at (text_of (text.letter c (held p))) }
+    requires printable { Printable (held p) }
+    requires room { Room buf.old at (text_of (text.letter c (held p))) }
     ensures { PutIs (text.letter c (held p)) buf.old at buf.new result }
 {
     match c {
@@ -336,8 +336,8 @@ fn check_letter(p: Moment, c: u8) -> Checked
 // "format left to right (with 6)": the first refusal, or the sum of the letters' bounds, one for any other byte. A last `%` gives 1. No
 // format is so long that 17 times its length would not fit.
 pub fn check(p: Moment, format: &[u8]) -> Checked
-    requires fact_1 { Printable (held p) }
-    requires fact_2 { length format.now < 2 ^ 58 }
+    requires printable { Printable (held p) }
+    requires short { length format.now < 2 ^ 58 }
     ensures { CheckIs (text.formatted (held p) format.now) (most_of format.now) result }
 {
     let mut i = 0;
@@ -366,9 +366,9 @@ pub fn check(p: Moment, format: &[u8]) -> Checked
 
 // How many bytes `put_format` takes, for a format that `check` let through.
 pub fn format_length(p: Moment, format: &[u8]) -> usize
-    requires fact_1 { Printable (held p) }
-    requires fact_2 { length format.now < 2 ^ 58 }
-    requires fact_3 { IsText (text.formatted (held p) format.now) }
+    requires printable { Printable (held p) }
+    requires short { length format.now < 2 ^ 58 }
+    requires is_text { IsText (text.formatted (held p) format.now) }
     ensures { result ≡ length (text_of (text.formatted (held p) format.now)) }
 {
     let mut i = 0;
@@ -388,9 +388,9 @@ pub fn format_length(p: Moment, format: &[u8]) -> usize
 // What a format that `check` let through writes: a `%` and a letter stand for what the letter writes, any other byte for itself. So no
 // letter is refused here.
 pub fn put_format(buf: &mut [u8], at: usize, p: Moment, format: &[u8]) -> Put
-    requires fact_1 { Printable (held p) }
-    requires fact_2 { IsText (text.formatted (held p) format.now) }
-    requires fact_3 { Room buf.old at (text_of (text.formatted (held p) format.now)) }
+    requires printable { Printable (held p) }
+    requires is_text { IsText (text.formatted (held p) format.now) }
+    requires room { Room buf.old at (text_of (text.formatted (held p) format.now)) }
     ensures { PutIs (text.formatted (held p) format.now) buf.old at buf.new result }
 {
     let mut i = 0;
