@@ -7,7 +7,7 @@ that was in camelCase begins with a capital. Run once, at the top, after the Rat
     python3 tools/spelling.py          # renames
     python3 tools/spelling.py --list   # says old and new names, and which of them fall together
 
-Words of Rattle, functions of src/, strings and the names of the goals (those that a Proof.antt answers) are left alone.
+Words of Rattle, functions of src/, strings and the names of the goals (those that a Proof.antt answers) are left alone, and so is what is spelled so already.
 """
 import collections
 import os
@@ -17,6 +17,7 @@ import sys
 STOP = r"\s(){}\[\];,.\"`«»"
 PART = re.compile(r"[^%s]+" % STOP)
 HEAD = re.compile(r"^(?:(?:abbrev|unfoldable|pub|data|record|opaque)\s+)*([^\s:(){}.]+)\s+:\s(.*)$")
+INNER = re.compile(r"^\s+(?:(?:abbrev|unfoldable|pub)\s+)*([a-z][^\s:(){}.]*)\s+:\s")
 FIELD = re.compile(r"^\s+(?:pub\s+)?((?:[^\s:(){}.]+\s+)+):\s")
 
 # Lemmas whose name, in snake case already, would fall together with a definition's in these files.
@@ -42,7 +43,7 @@ def files(end):
 
 def is_goal(name, kind):
     """Whether a line of a Proof.antt answers a goal, or is the proof itself."""
-    return "tie.Need-" in kind or "tie.invariant" in kind or "tie.decreases" in kind or "statement M" in kind
+    return "goal." in kind or "tie.Need-" in kind or "tie.invariant" in kind or "tie.decreases" in kind or "statement M" in kind
 
 
 def snake(name):
@@ -62,11 +63,13 @@ def declared():
             if head:
                 name, kind = head.groups()
                 inside = "block" if re.match(r"^(?:pub\s+)?(?:data|record)\s", line) else None
-                if path.endswith("Proof.antt") and is_goal(name, kind):
+                if is_goal(name, kind) or kind == "" and "-clause-" in name:
                     continue
                 found[name].add((path, kind))
             elif re.match(r"^(?:pub\s+)?(?:data|record)\s", line):
                 inside = "block"
+            elif not inside and INNER.match(line) and not line.lstrip().startswith("let "):
+                found[INNER.match(line).group(1)].add((path, line))
             elif inside and FIELD.match(line):
                 for name in FIELD.match(line).group(1).split():
                     found[name].add((path, line))
@@ -82,7 +85,7 @@ def table():
     taken = {name for name in found if "-" not in name and not re.search(r"[a-z0-9][A-Z]", name)}
     taken |= WORDS | {snake(name) for name in found if "-" not in name}
     for name, places in found.items():
-        if not re.match(r"^[a-z]", name) or not re.search(r"-|[a-z0-9][A-Z]", name):
+        if re.search(r"-.*_|_.*-", name) or not re.match(r"^[a-z]", name) or not re.search(r"-|[a-z0-9][A-Z]", name):
             continue
         to = snake(name)
         if all(re.search(r"→ Type \d+\s*$|^Type \d+\s*$", kind) for _, kind in places):
@@ -123,7 +126,7 @@ def main():
             text = open(path, encoding="utf-8").read()
             words = set(PART.findall(text))
             by = collections.defaultdict(set)
-            here = dict(new, **{name: name + "_lem" for name in GIVES_WAY.get(path, [])})
+            here = dict(new, **{name: name + "_lem" for name in GIVES_WAY.get(path, []) if name in new.values()})
             for w in words:
                 by[here.get(w, w)].add(w)
             if "--list" in sys.argv:
@@ -132,7 +135,7 @@ def main():
                         clash += 1
                         print("together", path, to, sorted(olds))
                 continue
-            here = dict(new, **{name: name + "_lem" for name in GIVES_WAY.get(path, [])})
+            here = dict(new, **{name: name + "_lem" for name in GIVES_WAY.get(path, []) if name in new.values()})
             changed = turned(text, here, end == ".rt")
             if changed != text:
                 open(path, "w", encoding="utf-8").write(changed)

@@ -39,15 +39,15 @@ next_400 c z e f = let q : suc (35200 + 100 * c + z) / 400 ≡ 88 + c / 4 + 1 = 
 leap_next : (c z : ℕ) → z < 100 → (b x : ℕ) → b ≡ 365 * z + z / 4 + x → 4 * b ≤ 146093 + c % 4 → 4 * x ≤ 1457 + z % 4 → x < 365 + leap_day (suc (35200 + 100 * c + z))
 leap_next c z h b x p q r = go (dec_lt x 365)
   where
-    by-century : 365 ≤ x → z % 4 ≡ 3 → Dec (z < 99) → x < 365 + leap_day (suc (35200 + 100 * c + z))
-    by-century l e (yes k) = omega (arith, leap_sum (suc (35200 + 100 * c + z)), next_4 c z e, next_100 c z k)
-    by-century l e (no k) =
+    by_century : 365 ≤ x → z % 4 ≡ 3 → Dec (z < 99) → x < 365 + leap_day (suc (35200 + 100 * c + z))
+    by_century l e (yes k) = omega (arith, leap_sum (suc (35200 + 100 * c + z)), next_4 c z e, next_100 c z k)
+    by_century l e (no k) =
         let g : z ≡ 99 = omega (arith, k) in
         omega (arith, leap_sum (suc (35200 + 100 * c + z)), next_4 c z e, next_400 c z g (omega arith))
 
     go : Dec (x < 365) → x < 365 + leap_day (suc (35200 + 100 * c + z))
     go (yes l) = omega arith
-    go (no l) = by-century (omega (arith, l)) (omega (arith, l)) (dec_lt z 99)
+    go (no l) = by_century (omega (arith, l)) (omega (arith, l)) (dec_lt z 99)
 
 -- The day n of the count is the day x after 1 March of the year y: 306 days later the next year begins.
 pub record March (n y x : ℕ) : Type 0 where

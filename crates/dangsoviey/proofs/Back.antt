@@ -21,7 +21,7 @@ use Rattle.calendar.specs.Ranges.{InRange}
 use Rattle.calendar.proofs.Counting.{DateOf, month_day}
 use Rattle.calendar.proofs.Instants.{start_is, time_high, date_of_lem, there_and_back}
 use Rattle.calendar.proofs.Years.{in_year, next_year, closed}
-use Rattle.real.proofs.Seconds.{filled-thousandths}
+use Rattle.real.proofs.Seconds.{filled_thousandths}
 use Rattle.digits.proofs.Decimal.{wide_places}
 use Rattle.moment.proofs.Steps.{already, in_range_lem, date_filled, time_filled}
 use Rattle.reading.specs.Written.{Stamp, written, Full}
@@ -137,11 +137,11 @@ module _ (t : ℕ) (l : unix_epoch - 62167219200000 ≤ t) (u : t ≤ last) wher
         spaces = refl;
       }
 
-  inFull : Instant
-  inFull = record { stamp = full_of t; millis = in_minute t % 1000; full = full; short = omega (arith, long t) }
+  in_full : Instant
+  in_full = record { stamp = full_of t; millis = in_minute t % 1000; full = full; short = omega (arith, long t) }
 
-  there : at inFull ≡ t
-  unfolding inFull
+  there : at in_full ≡ t
+  unfolding in_full
   there =
       let e : time_of_day t / 3600000 * 3600000 + time_of_day t / 60000 % 60 * 60000 + (1000 * (in_minute t / 1000) + in_minute t % 1000) ≡ time_of_day t = omega arith in
       rw (year_is, e) (there_and_back t (rw start_is (omega arith)) u)
@@ -155,7 +155,7 @@ module _ (t : ℕ) (l : unix_epoch - 62167219200000 ≤ t) (u : t ≤ last) wher
       let h = time_high t in
       rw (
         le-leb (year 0) (civil t).year (not_before t l u),
-        filled-thousandths (in_minute t) (omega arith),
+        filled_thousandths (in_minute t) (omega arith),
         wide_places 3 ((civil t).year - year 0) (omega arith) (omega (arith, D.high)),
         wide_places 1 (civil t).month (omega arith) (omega (arith, M.month_high)),
         wide_places 1 (civil t).day (omega arith) (omega (arith, M.day_high)),
@@ -171,7 +171,7 @@ unfolding milliseconds bad_shape bad_bytes
 instant_ms set ok a = rw (le-ltb 255 (length (written a.stamp)) a.short, none_bad, not_high (in_written a.stamp a.millis a.full), none_high, ok, by_itself (given a set))
 
 pub reads_back : Back
-unfolding inFull
+unfolding in_full
 reads_back set ok z h k =
     let t = instant_of z in
     let l = low z h in
@@ -181,5 +181,5 @@ reads_back set ok z h k =
       stamped = written (full_of t);
       is = stamp_text z r ∙ ap (λ (p : Moment). text (date_text p ++ ascii " " ++ time_text p)) (shows z r) ∙ ap text (same t l u);
       count = long t;
-      back = instant_ms set ok (inFull t l u) ∙ ap (λ (n : ℕ). integer (since_epoch n)) (there t l u) ∙ ap integer (since z r);
+      back = instant_ms set ok (in_full t l u) ∙ ap (λ (n : ℕ). integer (since_epoch n)) (there t l u) ∙ ap integer (since z r);
     }

@@ -36,13 +36,13 @@ module _ (set : Setting) (v : Value) (m : List ℕ) (s : Step) (h : read_of s �
   told : Read Moment → Answer
   told r = answered (settle (◌>>=◌ r (λ (p : Moment). got (integer (since_epoch p.ms))))) 0
 
-  pub milliseconds-next : (p : code.Moment) → s ≡ Next p → {z : ℤ} → z ≡ since_epoch p.ms → Answer.Integer z ≡ answered (milliseconds set v m) 0
+  pub milliseconds_next : (p : code.Moment) → s ≡ Next p → {z : ℤ} → z ≡ since_epoch p.ms → Answer.Integer z ≡ answered (milliseconds set v m) 0
   unfolding milliseconds answered told
-  milliseconds-next p e k = ap Answer.Integer k ∙ ap (λ (t : Step). told (read_of t)) (sym e) ∙ ap told h
+  milliseconds_next p e k = ap Answer.Integer k ∙ ap (λ (t : Step). told (read_of t)) (sym e) ∙ ap told h
 
-  pub milliseconds-refused : (x : Refusal) → s ≡ Refused x → Answer.Refused x ≡ answered (milliseconds set v m) 0
+  pub milliseconds_refused : (x : Refusal) → s ≡ Refused x → Answer.Refused x ≡ answered (milliseconds set v m) 0
   unfolding milliseconds answered told
-  milliseconds-refused x e = ap (λ (t : Step). told (read_of t)) (sym e) ∙ ap told h
+  milliseconds_refused x e = ap (λ (t : Step). told (read_of t)) (sym e) ∙ ap told h
 
 -- ---- a stamp
 never : {A : Type 0} → false ≡ true → A

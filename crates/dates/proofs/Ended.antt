@@ -38,14 +38,14 @@ module _ (block : List ℕ) (at end : ℕ) (p : Passed in_line block at end) whe
   lines_at = lines_split (drop at block) ∙ rw (← p.bytes, ← p.rest)
 
   -- no line ends in what is left
-  pub ended-none : (set : Setting) → length block ≤ end → ended_from set block at ≡ []
+  pub ended_none : (set : Setting) → length block ≤ end → ended_from set block at ≡ []
   unfolding ended
-  ended-none set h = rw (lines_at, drop_of_length-le block h)
+  ended_none set h = rw (lines_at, drop_of_length-le block h)
 
   -- a line ends there
-  pub ended-line : (set : Setting) → end < length block → ended_from set block at ≡ line_text set (part block at end) ++ ended_from set block (end + 1)
+  pub ended_line : (set : Setting) → end < length block → ended_from set block at ≡ line_text set (part block at end) ++ ended_from set block (end + 1)
   unfolding ended
-  ended-line set h = rw (lines_at, drop-cons block end 0 h, add-one, lines_split (drop (suc end) block))
+  ended_line set h = rw (lines_at, drop-cons block end 0 h, add-one, lines_split (drop (suc end) block))
 
   -- and the last line is as it was
   pub last_line : end < length block → last_from block at ≡ last_from block (end + 1)
@@ -60,21 +60,21 @@ module _ (k block : List ℕ) (end : ℕ) (p : Passed in_line block 0 end) where
   lines_are : parts is_newline block ≡ part block 0 end ∷ lines_after (drop end block)
   lines_are = lines_at block 0 end p
 
-  pub last-goes-on : length block ≤ end → k ++ take end block ≡ last_after k block
+  pub last_goes_on : length block ≤ end → k ++ take end block ≡ last_after k block
   unfolding last_of
-  last-goes-on h = let n : end - 0 ≡ end = omega arith in rw (lines_are, drop_of_length-le block h, n)
+  last_goes_on h = let n : end - 0 ≡ end = omega arith in rw (lines_are, drop_of_length-le block h, n)
 
-  pub last-after : end < length block → last_from block (end + 1) ≡ last_after k block
+  pub last_after_lem : end < length block → last_from block (end + 1) ≡ last_after k block
   unfolding last_of
-  last-after h = rw (lines_are, drop-cons block end 0 h, add-one, lines_split (drop (suc end) block))
+  last_after_lem h = rw (lines_are, drop-cons block end 0 h, add-one, lines_split (drop (suc end) block))
 
 pub passed_on : {block : List ℕ} {at end : ℕ} → Passed in_line block at end → at ≤ end
 passed_on q = rw q.place (omega arith)
 
 -- ---- the lines that are answered
 module _ {set : Setting} {block : List ℕ} {at used : ℕ} where
-  pub answers-start : (old : List ℕ) → at ≤ length block → used ≤ length old → Answered set block at used old old (record { at = at; used = used })
-  answers-start old h k = record {
+  pub answers_start : (old : List ℕ) → at ≤ length block → used ≤ length old → Answered set block at used old old (record { at = at; used = used })
+  answers_start old h k = record {
     done = [];
     laid = record { place = omega arith; bytes = refl };
     left = refl;
@@ -84,11 +84,11 @@ module _ {set : Setting} {block : List ℕ} {at used : ℕ} where
     used_inside = k;
   }
 
-  pub answers-on : {old mid new : List ℕ} {p : Place} {end next : ℕ} → Answered set block at used old mid p → Passed in_line block p.at end → end < length block → Laid mid p.used (line_text set (part block p.at end)) new next → next ≤ length new → Answered set block at used old new (record { at = end + 1; used = next })
-  answers-on {p = p} {end = end} a q h l k = record {
+  pub answers_on : {old mid new : List ℕ} {p : Place} {end next : ℕ} → Answered set block at used old mid p → Passed in_line block p.at end → end < length block → Laid mid p.used (line_text set (part block p.at end)) new next → next ≤ length new → Answered set block at used old new (record { at = end + 1; used = next })
+  answers_on {p = p} {end = end} a q h l k = record {
     done = a.done ++ line_text set (part block p.at end);
     laid = laid_then a.laid l;
-    left = a.left ∙ ap (λ (x : List ℕ). a.done ++ x) (ended-line block p.at end q set h) ∙ sym (append_assoc a.done (line_text set (part block p.at end)) (ended_from set block (end + 1)));
+    left = a.left ∙ ap (λ (x : List ℕ). a.done ++ x) (ended_line block p.at end q set h) ∙ sym (append_assoc a.done (line_text set (part block p.at end)) (ended_from set block (end + 1)));
     last = a.last ∙ last_line block p.at end q h;
     on = omega (arith, a.on, passed_on q);
     inside = omega arith;
@@ -96,15 +96,15 @@ module _ {set : Setting} {block : List ℕ} {at used : ℕ} where
   }
 
   -- why they stop: no line ends in what is left, or another answer has no room
-  pub answers-all : {old new : List ℕ} {p : Place} {end : ℕ} → Answered set block at used old new p → Passed in_line block p.at end → length block ≤ end → Answers set block at used old new p
-  answers-all {p = p} {end = end} a q h = record { answered = a; stops = λ room. ended-none block p.at end q set h }
+  pub answers_all : {old new : List ℕ} {p : Place} {end : ℕ} → Answered set block at used old new p → Passed in_line block p.at end → length block ≤ end → Answers set block at used old new p
+  answers_all {p = p} {end = end} a q h = record { answered = a; stops = λ room. ended_none block p.at end q set h }
 
-  pub answers-full : {old new : List ℕ} {p : Place} {t : Bool} → Answered set block at used old new p → t ≡ ltb 16384 (length new - p.used) → t ≡ false → Answers set block at used old new p
-  answers-full {new = new} {p = p} a e f = record { answered = a; stops = λ room. absurd (omega (arith, ltb-false 16384 (length new - p.used) (sym e ∙ f))) }
+  pub answers_full : {old new : List ℕ} {p : Place} {t : Bool} → Answered set block at used old new p → t ≡ ltb 16384 (length new - p.used) → t ≡ false → Answers set block at used old new p
+  answers_full {new = new} {p = p} a e f = record { answered = a; stops = λ room. absurd (omega (arith, ltb-false 16384 (length new - p.used) (sym e ∙ f))) }
 
   -- where they stop at once though there is room, no line ends from there on
-  pub answers-none : {old new : List ℕ} {p : Place} → Answers set block at used old new p → p.at ≡ at → 16384 < length old - used → ended_from set block at ≡ []
-  answers-none {p = p} a e room =
+  pub answers_none : {old new : List ℕ} {p : Place} → Answers set block at used old new p → p.at ≡ at → 16384 < length old - used → ended_from set block at ≡ []
+  answers_none {p = p} a e room =
       let d = a.answered.done in
       let n : length (ended_from set block at) ≡ length d + length (ended_from set block p.at) = ap length a.answered.left ∙ length-append d (ended_from set block p.at) in
       let m : ended_from set block p.at ≡ ended_from set block at = ap (λ (i : ℕ). ended_from set block i) e in

@@ -38,8 +38,8 @@ module _ (old more new : List ℕ) (have i : ℕ) (e : KeptTo old have more new 
         }
 
     -- the part ends
-    pub kept-all : have + i ≤ length new → length more ≤ i → Keeps old have more new (have + i)
-    kept-all f k = record {
+    pub kept_all : have + i ≤ length new → length more ≤ i → Keeps old have more new (have + i)
+    kept_all f k = record {
       inside = f;
       bytes = e ∙ ap (λ (x : List ℕ). take have old ++ x) (take_all i more k) ∙ sym (take_all (length new) (take have old ++ more) (omega (arith, length-append (take have old) more, length-take-le have old h)));
     }

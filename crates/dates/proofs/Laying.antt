@@ -38,30 +38,30 @@ mid_laid out t used k h f =
 
 -- ---- a line's answer, which finds room, and its newline
 module _ (set : Setting) (s out ys : List ℕ) (used k : ℕ) (e : k ≡ 16384) (room : 16384 < length out - used) {a : Answer} {n : ℕ} (p : a ≡ answered (text (line set s)) (length (mid_of used k out))) (q : ys ≡ after (text (line set s)) (mid_of used k out)) (l : n ≡ text_length a) where
-  mid-length : length (mid_of used k out) ≡ 16384
-  mid-length = length-take-le k (drop used out) (rw (length-drop used out) (omega arith)) ∙ e
+  mid_length : length (mid_of used k out) ≡ 16384
+  mid_length = length-take-le k (drop used out) (rw (length-drop used out) (omega arith)) ∙ e
 
   fits : leb (length (line set s)) (length (mid_of used k out)) ≡ true
-  fits = rw mid-length (le-leb (length (line set s)) 16384 (line_short set s))
+  fits = rw mid_length (le-leb (length (line set s)) 16384 (line_short set s))
 
   told : text_length (answered (text (line set s)) (length (mid_of used k out))) ≡ length (line set s)
   unfolding answered
   told = rw fits
 
-  line-length : n ≡ length (line set s)
-  line-length = l ∙ ap text_length p ∙ told
+  line_length : n ≡ length (line set s)
+  line_length = l ∙ ap text_length p ∙ told
 
-  pub line-room : n ≤ 16384
-  line-room = rw line-length (line_short set s)
+  pub line_room : n ≤ 16384
+  line_room = rw line_length (line_short set s)
 
-  pub line-laid : {new : List ℕ} {r : ℕ} → Laid (put_mid used k out ys) (used + n) (10 ∷ []) new r → Laid out used (line_text set s) new r × (r ≤ length new)
+  pub line_laid : {new : List ℕ} {r : ℕ} → Laid (put_mid used k out ys) (used + n) (10 ∷ []) new r → Laid out used (line_text set s) new r × (r ≤ length new)
   unfolding after
-  line-laid x =
+  line_laid x =
       let t = line set s in
       let y : ys ≡ t ++ drop (length t) (mid_of used k out) = q ∙ rw fits in
       let few = line_short set s in
       let first : Laid out used t (put_mid used k out ys) (used + n) = record {
-        place = ap (λ (m : ℕ). used + m) line-length;
+        place = ap (λ (m : ℕ). used + m) line_length;
         bytes = ap (put_mid used k out) y ∙ mid_laid out t used k (omega arith) (omega arith);
       } in
       let both : Laid out used (t ++ (10 ∷ [])) _ _ = laid_then first x in

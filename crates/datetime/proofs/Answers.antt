@@ -68,14 +68,14 @@ step_answer set c r k e s t f h =
 
 -- the five functions of one time value: the tests before reading are the same for each of them
 module _ (set : Setting) (v : Value) (m : List ℕ) (s : Step) (h : read_of s ≡ opened set (call Function.Date v m) (moment_of set v m)) where
-  pub call-refused : (f : Function) (x : Refusal) → s ≡ Refused x → answer set (call f v m) ≡ refused x
+  pub call_refused : (f : Function) (x : Refusal) → s ≡ Refused x → answer set (call f v m) ≡ refused x
   unfolding reading bad_shape bad_bytes
-  call-refused f x e = step_answer set (call f v m) (moment_of set v m) (λ (p : Moment). got (outcome_of f m p)) refl s (Refused x) e h
+  call_refused f x e = step_answer set (call f v m) (moment_of set v m) (λ (p : Moment). got (outcome_of f m p)) refl s (Refused x) e h
 
   -- of one that lends no buffer
-  pub number-refused : (f : Function) (x : Refusal) → s ≡ Refused x → Answer.Refused x ≡ answered (answer set (call f v m)) 0
+  pub number_refused : (f : Function) (x : Refusal) → s ≡ Refused x → Answer.Refused x ≡ answered (answer set (call f v m)) 0
   unfolding answered
-  number-refused f x e = ap (λ (o : Outcome). answered o 0) (sym (call-refused f x e))
+  number_refused f x e = ap (λ (o : Outcome). answered o 0) (sym (call_refused f x e))
 
   module _ (p : code.Moment) (e : s ≡ Next p) where
     pub call_next : (f : Function) → answer set (call f v m) ≡ outcome_of f m (held p)
@@ -84,35 +84,35 @@ module _ (set : Setting) (v : Value) (m : List ℕ) (s : Step) (h : read_of s �
 
     -- of the record renewed
     module _ (q : code.Moment) (k : held q ≡ renewed m (held p)) where
-      pub date-answer : answer set (call Function.Date v m) ≡ text (date_text (held q))
+      pub date_answer : answer set (call Function.Date v m) ≡ text (date_text (held q))
       unfolding outcome_of
-      date-answer = call_next Function.Date ∙ ap (λ (x : Moment). text (date_text x)) (sym k)
+      date_answer = call_next Function.Date ∙ ap (λ (x : Moment). text (date_text x)) (sym k)
 
-      pub time-answer : answer set (call Function.Time v m) ≡ text (time_text (held q))
+      pub time_answer : answer set (call Function.Time v m) ≡ text (time_text (held q))
       unfolding outcome_of
-      time-answer = call_next Function.Time ∙ ap (λ (x : Moment). text (time_text x)) (sym k)
+      time_answer = call_next Function.Time ∙ ap (λ (x : Moment). text (time_text x)) (sym k)
 
-      pub datetime-answer : answer set (call Function.Datetime v m) ≡ text (date_text (held q) ++ ascii " " ++ time_text (held q))
+      pub datetime_answer : answer set (call Function.Datetime v m) ≡ text (date_text (held q) ++ ascii " " ++ time_text (held q))
       unfolding outcome_of
-      datetime-answer = call_next Function.Datetime ∙ ap (λ (x : Moment). text (date_text x ++ ascii " " ++ time_text x)) (sym k)
+      datetime_answer = call_next Function.Datetime ∙ ap (λ (x : Moment). text (date_text x ++ ascii " " ++ time_text x)) (sym k)
 
     -- numbers, which need no room
-    pub julianday-answer : {x : Float} → x ≡ julian_real p.ms → Answer.Real x ≡ answered (answer set (call Function.Julianday v m)) 0
+    pub julianday_answer : {x : Float} → x ≡ julian_real p.ms → Answer.Real x ≡ answered (answer set (call Function.Julianday v m)) 0
     unfolding outcome_of answered
-    julianday-answer k = ap Answer.Real k ∙ ap (λ (o : Outcome). answered o 0) (sym (call_next Function.Julianday))
+    julianday_answer k = ap Answer.Real k ∙ ap (λ (o : Outcome). answered o 0) (sym (call_next Function.Julianday))
 
-    pub unixepoch-answer : {r : Answer} → r ≡ answered (outcome_of Function.Unixepoch [] (held p)) 0 → r ≡ answered (answer set (call Function.Unixepoch v m)) 0
+    pub unixepoch_answer : {r : Answer} → r ≡ answered (outcome_of Function.Unixepoch [] (held p)) 0 → r ≡ answered (answer set (call Function.Unixepoch v m)) 0
     unfolding outcome_of
-    unixepoch-answer k = k ∙ ap (λ (o : Outcome). answered o 0) (sym (call_next Function.Unixepoch))
+    unixepoch_answer k = k ∙ ap (λ (o : Outcome). answered o 0) (sym (call_next Function.Unixepoch))
 
 -- strftime
 module _ (set : Setting) (f : List ℕ) (v : Value) (m : List ℕ) (s : Step) (h : read_of s ≡ opened set (strftime f v m) (moment_of set v m)) where
-  pub strftime-refused : (x : Refusal) → s ≡ Refused x → answer set (strftime f v m) ≡ refused x
+  pub strftime_refused : (x : Refusal) → s ≡ Refused x → answer set (strftime f v m) ≡ refused x
   unfolding reading
-  strftime-refused x e = step_answer set (strftime f v m) (moment_of set v m) (λ (p : Moment). ◌>>=◌ (formatted (fill p) f) (λ (t : List ℕ). got (text t))) refl s (Refused x) e h
+  strftime_refused x e = step_answer set (strftime f v m) (moment_of set v m) (λ (p : Moment). ◌>>=◌ (formatted (fill p) f) (λ (t : List ℕ). got (text t))) refl s (Refused x) e h
 
-  pub strftime-answer : (p : code.Moment) → s ≡ Next p → (q : code.Moment) → held q ≡ fill (held p) → answer set (strftime f v m) ≡ formatted_of (held q) f
+  pub strftime_answer : (p : code.Moment) → s ≡ Next p → (q : code.Moment) → held q ≡ fill (held p) → answer set (strftime f v m) ≡ formatted_of (held q) f
   unfolding reading
-  strftime-answer p e q k =
+  strftime_answer p e q k =
       step_answer set (strftime f v m) (moment_of set v m) (λ (p : Moment). ◌>>=◌ (formatted (fill p) f) (λ (t : List ℕ). got (text t))) refl s (Next p) e h
       ∙ ap (λ (x : Moment). formatted_of x f) (sym k)

@@ -43,11 +43,11 @@ module _ (set : Setting) (a b : Value) (s : Pair) (h : instants_of s ≡ opened 
   of_pair t e =
       answer_is set (timediff a b) ∙ ap (λ (x : Read Outcome). settle (opened set (timediff a b) x)) (reading_is set a b) ∙ ap settle (opened_then set (timediff a b) (instants set a b) told) ∙ ap (λ (x : Read (ℕ × ℕ)). settle (◌>>=◌ x told)) (sym h) ∙ ap (λ (x : Pair). settle (◌>>=◌ (instants_of x) told)) e
 
-  pub timediff-refused : (x : Refusal) → s ≡ Refused x → answer set (timediff a b) ≡ refused x
-  timediff-refused x e = of_pair (Refused x) e
+  pub timediff_refused : (x : Refusal) → s ≡ Refused x → answer set (timediff a b) ≡ refused x
+  timediff_refused x e = of_pair (Refused x) e
 
-  pub timediff-answer : (x y : ℕ) → s ≡ Are x y → answer set (timediff a b) ≡ text (difference x y)
-  timediff-answer x y e = of_pair (Are x y) e
+  pub timediff_answer : (x y : ℕ) → s ≡ Are x y → answer set (timediff a b) ≡ text (difference x y)
+  timediff_answer x y e = of_pair (Are x y) e
 
 -- both lie in range
 pub both_in_range : {s : Pair} (x y : ℕ) → s ≡ Are x y → BothInRange s → InRange x × InRange y

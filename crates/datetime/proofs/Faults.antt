@@ -127,21 +127,21 @@ both_short {set} {a} {b} p = both_false (over 255 (bytes_of a)) (over 255 (bytes
 
 -- ---- the setting
 module _ (set : Setting) where
-  pub clock-bad : 253402300799999 < set.clock → bad_setting set ≡ true
+  pub clock_bad : 253402300799999 < set.clock → bad_setting set ≡ true
   unfolding bad_setting
-  clock-bad h = rw (lt-ltb 253402300799999 set.clock h)
+  clock_bad h = rw (lt-ltb 253402300799999 set.clock h)
 
-  pub clock-good : bad_setting set ≡ false → set.clock ≤ 253402300799999
+  pub clock_good : bad_setting set ≡ false → set.clock ≤ 253402300799999
   unfolding bad_setting
-  clock-good h = ltb-false 253402300799999 set.clock (both_false (ltb 253402300799999 set.clock) (far_off set.offset) h).0
+  clock_good h = ltb-false 253402300799999 set.clock (both_false (ltb 253402300799999 set.clock) (far_off set.offset) h).0
 
-  pub offset-tells : set.clock ≤ 253402300799999 → bad_setting set ≡ far_off set.offset
+  pub offset_tells : set.clock ≤ 253402300799999 → bad_setting set ≡ far_off set.offset
   unfolding bad_setting
-  offset-tells h = rw (le-ltb 253402300799999 set.clock h)
+  offset_tells h = rw (le-ltb 253402300799999 set.clock h)
 
-  pub offset-good : bad_setting set ≡ false → nat_abs set.offset ≤ 86399
+  pub offset_good : bad_setting set ≡ false → nat_abs set.offset ≤ 86399
   unfolding bad_setting
-  offset-good h = near set.offset (both_false (ltb 253402300799999 set.clock) (far_off set.offset) h).1
+  offset_good h = near set.offset (both_false (ltb 253402300799999 set.clock) (far_off set.offset) h).1
     where
       near : (z : ℤ) → far_off z ≡ false → nat_abs z ≤ 86399
       near (pos n) h = ltb-false 86399 n h
@@ -160,9 +160,9 @@ module _ (most : ℕ) (s : List ℕ) where
   pub too_long : most < length s → fault.Shape ≡ text_fault most s
   too_long h = rw (lt-ltb most (length s) h)
 
-  pub with-high : length s ≤ most → every (λ b. leb b 127) s ≡ false → fault.Bytes ≡ text_fault most s
+  pub with_high : length s ≤ most → every (λ b. leb b 127) s ≡ false → fault.Bytes ≡ text_fault most s
   unfolding high
-  with-high h e = rw (le-ltb most (length s) h, e)
+  with_high h e = rw (le-ltb most (length s) h, e)
 
   pub plain : length s ≤ most → every (λ b. leb b 127) s ≡ true → fault.Nothing ≡ text_fault most s
   unfolding high

@@ -88,19 +88,19 @@ refused_late (refuse y) {old} x h = rw (h.0, h.1) (gives_refusal old y)
 
 module _ (p : Moment) (f : List ℕ) where
   -- what `check` finds
-  pub check-passes : (limit n : ℕ) {a : Checked} → a ≡ checked.Most n → CheckIs (formatted p f) limit a → Passes (formatted p f) n
-  check-passes limit n e h = passes (formatted p f) limit n (subst (λ (a : Checked). CheckIs (formatted p f) limit a) e h)
+  pub check_passes : (limit n : ℕ) {a : Checked} → a ≡ checked.Most n → CheckIs (formatted p f) limit a → Passes (formatted p f) n
+  check_passes limit n e h = passes (formatted p f) limit n (subst (λ (a : Checked). CheckIs (formatted p f) limit a) e h)
 
-  pub check-gives : (limit : ℕ) (x : Refusal) (old : List ℕ) {a : Checked} → a ≡ checked.Refused x → CheckIs (formatted p f) limit a → Gives (formatted_of p f) old old (Answer.Refused x)
-  check-gives limit x old e h = check_refuses (formatted p f) limit x old (subst (λ (a : Checked). CheckIs (formatted p f) limit a) e h)
+  pub check_gives : (limit : ℕ) (x : Refusal) (old : List ℕ) {a : Checked} → a ≡ checked.Refused x → CheckIs (formatted p f) limit a → Gives (formatted_of p f) old old (Answer.Refused x)
+  check_gives limit x old e h = check_refuses (formatted p f) limit x old (subst (λ (a : Checked). CheckIs (formatted p f) limit a) e h)
 
   -- 7
   pub format_length : {old : List ℕ} {n : ℕ} → IsText (formatted p f) → n ≡ length (text_of (formatted p f)) → length old < n → Gives (formatted_of p f) old old (Answer.NoRoom n)
   format_length t e h = no_room (formatted p f) t e h
 
   -- what `put_format` leaves
-  pub put-gives : {old new : List ℕ} (n : ℕ) {a : Put} → Room old 0 (text_of (formatted p f)) → a ≡ put.At n → PutIs (formatted p f) old 0 new a → Gives (formatted_of p f) old new (Answer.Text n)
-  put-gives {old} {new} n r e h = laid (formatted p f) n r (subst (λ (a : Put). PutIs (formatted p f) old 0 new a) e h)
+  pub put_gives : {old new : List ℕ} (n : ℕ) {a : Put} → Room old 0 (text_of (formatted p f)) → a ≡ put.At n → PutIs (formatted p f) old 0 new a → Gives (formatted_of p f) old new (Answer.Text n)
+  put_gives {old} {new} n r e h = laid (formatted p f) n r (subst (λ (a : Put). PutIs (formatted p f) old 0 new a) e h)
 
-  pub put-refuses : {old new : List ℕ} (x : Refusal) {a : Put} → a ≡ put.Refused x → PutIs (formatted p f) old 0 new a → Gives (formatted_of p f) old new (Answer.Refused x)
-  put-refuses {old} {new} x e h = refused_late (formatted p f) x (subst (λ (a : Put). PutIs (formatted p f) old 0 new a) e h)
+  pub put_refuses : {old new : List ℕ} (x : Refusal) {a : Put} → a ≡ put.Refused x → PutIs (formatted p f) old 0 new a → Gives (formatted_of p f) old new (Answer.Refused x)
+  put_refuses {old} {new} x e h = refused_late (formatted p f) x (subst (λ (a : Put). PutIs (formatted p f) old 0 new a) e h)

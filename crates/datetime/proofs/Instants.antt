@@ -32,21 +32,21 @@ present_bytes (Given.Integer n) s = refl
 present_bytes (Given.Real x) s = refl
 
 module _ (g : Given) (s : List ℕ) {x : Given} where
-  pub present-read : (clock : ℕ) → x ≡ present_of g → time_value clock (value_of x s) ≡ time_value clock (present (value_of g s))
-  present-read clock e = ap (λ (v : Value). time_value clock v) (ap (λ (h : Given). value_of h s) e ∙ present_value g s)
+  pub present_read : (clock : ℕ) → x ≡ present_of g → time_value clock (value_of x s) ≡ time_value clock (present (value_of g s))
+  present_read clock e = ap (λ (v : Value). time_value clock v) (ap (λ (h : Given). value_of h s) e ∙ present_value g s)
 
-  pub present-short : x ≡ present_of g → over 255 (bytes_of (value_of g s)) ≡ false → length (bytes_of (value_of x s)) ≤ 255
-  present-short e h = rw (e, present_bytes g s) (ltb-false 255 (length (bytes_of (value_of g s))) h)
+  pub present_short : x ≡ present_of g → over 255 (bytes_of (value_of g s)) ≡ false → length (bytes_of (value_of x s)) ≤ 255
+  present_short e h = rw (e, present_bytes g s) (ltb-false 255 (length (bytes_of (value_of g s))) h)
 
 -- ---- the final range of both, once their milliseconds are counted
 module _ (p q : Moment) {a b : Moment} (e : a ≡ count_ms p) (f : b ≡ count_ms q) where
-  pub both-are : passes a ≡ true → passes b ≡ true → ranged_both p q ≡ got (a.ms, b.ms)
+  pub both_are : passes a ≡ true → passes b ≡ true → ranged_both p q ≡ got (a.ms, b.ms)
   unfolding ranged_both ranged
-  both-are h k = rw (sym e, sym f, h, k)
+  both_are h k = rw (sym e, sym f, h, k)
 
-  pub second-out : passes a ≡ true → passes b ≡ false → ranged_both p q ≡ refuse Refusal.Null
+  pub second_out : passes a ≡ true → passes b ≡ false → ranged_both p q ≡ refuse Refusal.Null
   unfolding ranged_both ranged
-  second-out h k = rw (sym e, sym f, h, k)
+  second_out h k = rw (sym e, sym f, h, k)
 
   pub first_out : passes a ≡ false → ranged_both p q ≡ refuse Refusal.Null
   unfolding ranged_both ranged
@@ -54,14 +54,14 @@ module _ (p q : Moment) {a b : Moment} (e : a ≡ count_ms p) (f : b ≡ count_m
 
 -- ---- both values
 module _ (set : Setting) (a b : Value) where
-  pub instants-are : {p q : Moment} → time_value set.clock (present a) ≡ got p → time_value set.clock (present b) ≡ got q → instants set a b ≡ ranged_both p q
+  pub instants_are : {p q : Moment} → time_value set.clock (present a) ≡ got p → time_value set.clock (present b) ≡ got q → instants set a b ≡ ranged_both p q
   unfolding instants
-  instants-are e f = rw (e, f)
+  instants_are e f = rw (e, f)
 
   pub no_second : {p : Moment} {x : Refusal} → time_value set.clock (present a) ≡ got p → time_value set.clock (present b) ≡ refuse x → instants set a b ≡ refuse x
   unfolding instants
   no_second e f = rw (e, f)
 
-  pub no-first : {x : Refusal} → time_value set.clock (present a) ≡ refuse x → instants set a b ≡ refuse x
+  pub no_first : {x : Refusal} → time_value set.clock (present a) ≡ refuse x → instants set a b ≡ refuse x
   unfolding instants
-  no-first e = rw e
+  no_first e = rw e

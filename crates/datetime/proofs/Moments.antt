@@ -16,13 +16,13 @@ use Rattle.moment.specs.declared.Step.TheVariants.{Next, Refused}
 use Rattle.datetime.specs.Opened.{Ready}
 
 module _ (set : Setting) (v : Value) (m : List ℕ) where
-  pub moment-is : {p q : Moment} → time_value set.clock v ≡ got p → modified set.offset 0 (modifiers m) p ≡ got q → moment_of set v m ≡ ranged q
+  pub moment_is : {p q : Moment} → time_value set.clock v ≡ got p → modified set.offset 0 (modifiers m) p ≡ got q → moment_of set v m ≡ ranged q
   unfolding moment_of
-  moment-is e f = rw (e, f)
+  moment_is e f = rw (e, f)
 
-  pub no-modifier : {p : Moment} {x : Refusal} → time_value set.clock v ≡ got p → modified set.offset 0 (modifiers m) p ≡ refuse x → moment_of set v m ≡ refuse x
+  pub no_modifier : {p : Moment} {x : Refusal} → time_value set.clock v ≡ got p → modified set.offset 0 (modifiers m) p ≡ refuse x → moment_of set v m ≡ refuse x
   unfolding moment_of
-  no-modifier e f = rw (e, f)
+  no_modifier e f = rw (e, f)
 
   pub no_value : {x : Refusal} → time_value set.clock v ≡ refuse x → moment_of set v m ≡ refuse x
   unfolding moment_of

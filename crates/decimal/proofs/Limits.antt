@@ -40,13 +40,13 @@ neither true x y = refl
 neither false x y = refl
 
 module _ (minus : Bool) (d up down : ℕ) where
-  pub too-high : down + 22 < up → nearest_to minus d up down ≡ over minus d
+  pub too_high : down + 22 < up → nearest_to minus d up down ≡ over minus d
   unfolding nearest_to
-  too-high h = rw (lt-leb up (down + 22) h) (ap (λ (r : Read Float). if eqb d 0 then got (round binary64 minus 0 1) else r) (neither (ltb d (10 ^ 19)) _ _))
+  too_high h = rw (lt-leb up (down + 22) h) (ap (λ (r : Read Float). if eqb d 0 then got (round binary64 minus 0 1) else r) (neither (ltb d (10 ^ 19)) _ _))
 
-  pub too-low : up + 22 < down → up ≤ down + 22 → nearest_to minus d up down ≡ over minus d
+  pub too_low : up + 22 < down → up ≤ down + 22 → nearest_to minus d up down ≡ over minus d
   unfolding nearest_to
-  too-low h k = rw (lt-leb down (up + 22) h, le-leb up (down + 22) k) (ap (λ (r : Read Float). if eqb d 0 then got (round binary64 minus 0 1) else r) (neither (ltb d (10 ^ 19)) _ _))
+  too_low h k = rw (lt-leb down (up + 22) h, le-leb up (down + 22) k) (ap (λ (r : Read Float). if eqb d 0 then got (round binary64 minus 0 1) else r) (neither (ltb d (10 ^ 19)) _ _))
 
   pub too_long : 10 ^ 19 ≤ d → nearest_to minus d up down ≡ refuse Refusal.Decimal
   unfolding nearest_to
@@ -82,8 +82,8 @@ signed false a c = refl
 -- ---- held numbers come to the same
 
 module _ (minus : Bool) (d : ℕ) where
-  pub held-digits : (up down : ℕ) → nearest_to minus (held d) up down ≡ nearest_to minus d up down
-  held-digits up down = elim (dec_le d (10 ^ 19)) [
+  pub held_digits : (up down : ℕ) → nearest_to minus (held d) up down ≡ nearest_to minus d up down
+  held_digits up down = elim (dec_le d (10 ^ 19)) [
     | yes h ↦ ap (λ (x : ℕ). nearest_to minus x up down) (min-eq_left h)
     | no n ↦ let h = le_of_lt (lt_of_not-le n) in ap (λ (x : ℕ). nearest_to minus x up down) (min-eq_right h) ∙ too_long minus (10 ^ 19) up down (le_refl (10 ^ 19)) ∙ sym (too_long minus d up down h)
   ]
@@ -91,13 +91,13 @@ module _ (minus : Bool) (d : ℕ) where
   pub held_up : (most e tenths : ℕ) → tenths + 22 < most → nearest_to minus d (min e most) tenths ≡ nearest_to minus d e tenths
   held_up most e tenths l = elim (dec_le e most) [
     | yes h ↦ ap (λ (x : ℕ). nearest_to minus d x tenths) (min-eq_left h)
-    | no n ↦ let h = le_of_lt (lt_of_not-le n) in ap (λ (x : ℕ). nearest_to minus d x tenths) (min-eq_right h) ∙ too-high minus d most tenths l ∙ sym (too-high minus d e tenths (omega arith))
+    | no n ↦ let h = le_of_lt (lt_of_not-le n) in ap (λ (x : ℕ). nearest_to minus d x tenths) (min-eq_right h) ∙ too_high minus d most tenths l ∙ sym (too_high minus d e tenths (omega arith))
   ]
 
   pub held_down : (most e tenths : ℕ) → 22 < most → nearest_to minus d 0 (tenths + min e most) ≡ nearest_to minus d 0 (tenths + e)
   held_down most e tenths l = elim (dec_le e most) [
     | yes h ↦ ap (λ (x : ℕ). nearest_to minus d 0 (tenths + x)) (min-eq_left h)
-    | no n ↦ let h = le_of_lt (lt_of_not-le n) in ap (λ (x : ℕ). nearest_to minus d 0 (tenths + x)) (min-eq_right h) ∙ too-low minus d 0 (tenths + most) (omega arith) zero-le ∙ sym (too-low minus d 0 (tenths + e) (omega arith) zero-le)
+    | no n ↦ let h = le_of_lt (lt_of_not-le n) in ap (λ (x : ℕ). nearest_to minus d 0 (tenths + x)) (min-eq_right h) ∙ too_low minus d 0 (tenths + most) (omega arith) zero-le ∙ sym (too_low minus d 0 (tenths + e) (omega arith) zero-le)
   ]
 
 -- a number with an exponent, as the rules read it
@@ -110,5 +110,5 @@ held_scaled minus d tenths (refuse r) l = refl
 held_scaled minus d tenths (got x) l = go x.0 x.1
   where
     go : (m : Bool) (e : ℕ) → scaled minus (held d) tenths (m, held e) ≡ scaled minus d tenths (m, e)
-    go true e = held-digits minus d 0 (tenths + held e) ∙ held_down minus d (10 ^ 19) e tenths (lit≤ tt)
-    go false e = held-digits minus d (held e) (tenths + 0) ∙ held_up minus d (10 ^ 19) e (tenths + 0) (omega arith)
+    go true e = held_digits minus d 0 (tenths + held e) ∙ held_down minus d (10 ^ 19) e tenths (lit≤ tt)
+    go false e = held_digits minus d (held e) (tenths + 0) ∙ held_up minus d (10 ^ 19) e (tenths + 0) (omega arith)

@@ -14,15 +14,15 @@ use Rattle.rules.specs.Decimal.{sign, run, value, point, some, exponent, digits_
 use Rattle.real.proofs.Run.{run_step}
 use Rattle.text.specs.Places.{begins, stands}
 use Rattle.text.proofs.Bytes.{digit_bounds}
-use Rattle.text.proofs.Reading.{stands-cons}
+use Rattle.text.proofs.Reading.{stands_cons}
 use Rattle.decimal.specs.Held.{held, held_exponent, Taken}
 use Rattle.decimal.specs.declared.Digits.{Digits}
 use Rattle.decimal.proofs.Limits.{held_value, value_append, scaled, held_scaled}
 
 -- what is left at the end, and before it
 module _ (s : List ℕ) (at : ℕ) where
-  pub at-end : length s ≤ at → drop at s ≡ []
-  at-end h = drop_of_length-le s h
+  pub at_end : length s ≤ at → drop at s ≡ []
+  at_end h = drop_of_length-le s h
 
   pub at_byte : at < length s → drop at s ≡ get_or s at 0 ∷ drop (at + 1) s
   at_byte h = rw add-one (drop-cons s at 0 h)
@@ -30,13 +30,13 @@ module _ (s : List ℕ) (at : ℕ) where
 -- ---- a sign
 
 module _ (s : List ℕ) (at : ℕ) where
-  pub sign-minus : stands 45 s at ≡ true → sign (drop at s) ≡ (true, drop (at + 1) s)
+  pub sign_minus : stands 45 s at ≡ true → sign (drop at s) ≡ (true, drop (at + 1) s)
   unfolding sign
-  sign-minus e = rw (stands-cons 45 s at e)
+  sign_minus e = rw (stands_cons 45 s at e)
 
-  pub sign-plus : stands 43 s at ≡ true → sign (drop at s) ≡ (false, drop (at + 1) s)
+  pub sign_plus : stands 43 s at ≡ true → sign (drop at s) ≡ (false, drop (at + 1) s)
   unfolding sign
-  sign-plus e = rw (stands-cons 43 s at e)
+  sign_plus e = rw (stands_cons 43 s at e)
 
 pub sign_none : (s : List ℕ) → begins 45 s ≡ false → begins 43 s ≡ false → sign s ≡ (false, s)
 unfolding sign
@@ -105,7 +105,7 @@ point_none (b ∷ s) e = rw e
 
 pub point_some : (s : List ℕ) (at : ℕ) → stands 46 s at ≡ true → point (drop at s) ≡ run (drop (at + 1) s)
 unfolding point
-point_some s at e = rw (stands-cons 46 s at e)
+point_some s at e = rw (stands_cons 46 s at e)
 
 -- ---- an exponent
 
@@ -117,17 +117,17 @@ abbrev pub magnitude : Bool → List ℕ × List ℕ → Read (Bool × ℕ)
 magnitude minus r = ◌>>=◌ (some r.0) (λ ds. ended r.1 (minus, value 0 ds))
 
 module _ (s : List ℕ) (at : ℕ) where
-  pub exponent-end : length s ≤ at → exponent (drop at s) ≡ got (false, 0)
+  pub exponent_end : length s ≤ at → exponent (drop at s) ≡ got (false, 0)
   unfolding exponent
-  exponent-end h = rw (at-end s at h)
+  exponent_end h = rw (at_end s at h)
 
-  pub exponent-other : at < length s → is_e (get_or s at 0) ≡ false → exponent (drop at s) ≡ other
+  pub exponent_other : at < length s → is_e (get_or s at 0) ≡ false → exponent (drop at s) ≡ other
   unfolding exponent
-  exponent-other h e = rw (at_byte s at h, e)
+  exponent_other h e = rw (at_byte s at h, e)
 
-  pub exponent-digits : (minus : Bool) (next : ℕ) → at < length s → is_e (get_or s at 0) ≡ true → sign (drop (at + 1) s) ≡ (minus, drop next s) → exponent (drop at s) ≡ magnitude minus (run (drop next s))
+  pub exponent_digits : (minus : Bool) (next : ℕ) → at < length s → is_e (get_or s at 0) ≡ true → sign (drop (at + 1) s) ≡ (minus, drop next s) → exponent (drop at s) ≡ magnitude minus (run (drop next s))
   unfolding exponent
-  exponent-digits minus next h e f = rw (at_byte s at h, e, f)
+  exponent_digits minus next h e f = rw (at_byte s at h, e, f)
 
 some_none : (ds : List ℕ) → 0 ≡ length ds → some ds ≡ other
 some_none [] h = refl
@@ -138,14 +138,14 @@ some_got [] h = absurd (h refl)
 some_got (d ∷ ds) h = refl
 
 module _ (minus : Bool) (r : List ℕ × List ℕ) (s : List ℕ) (d : Digits) (t : Taken r s 0 d) where
-  pub magnitude-none : d.count ≡ 0 → magnitude minus r ≡ other
-  magnitude-none e = rw (some_none r.0 (sym e ∙ t.many))
+  pub magnitude_none : d.count ≡ 0 → magnitude minus r ≡ other
+  magnitude_none e = rw (some_none r.0 (sym e ∙ t.many))
 
-  pub magnitude-more : (d.count ≡ 0 → ⊥) → d.next < length s → magnitude minus r ≡ other
-  magnitude-more e h = rw (some_got r.0 (λ z. e (t.many ∙ sym z)), t.rest, at_byte s d.next h)
+  pub magnitude_more : (d.count ≡ 0 → ⊥) → d.next < length s → magnitude minus r ≡ other
+  magnitude_more e h = rw (some_got r.0 (λ z. e (t.many ∙ sym z)), t.rest, at_byte s d.next h)
 
-  pub magnitude-got : (d.count ≡ 0 → ⊥) → length s ≤ d.next → held_exponent (magnitude minus r) ≡ got (minus, d.value)
-  magnitude-got e h = rw (some_got r.0 (λ z. e (t.many ∙ sym z)), t.rest, at-end s d.next h) (ap (λ (x : ℕ). got (minus, x)) (sym t.number))
+  pub magnitude_got : (d.count ≡ 0 → ⊥) → length s ≤ d.next → held_exponent (magnitude minus r) ≡ got (minus, d.value)
+  magnitude_got e h = rw (some_got r.0 (λ z. e (t.many ∙ sym z)), t.rest, at_end s d.next h) (ap (λ (x : ℕ). got (minus, x)) (sym t.number))
 
 -- ---- digits, point, digits, exponent
 
@@ -172,11 +172,11 @@ module _ (minus : Bool) (s : List ℕ) (at : ℕ) (a b : Digits) (o : Taken (run
   number : held (value 0 (ones ++ tenths)) ≡ b.value
   number = ap held (value_append 0 ones tenths) ∙ sym (held_value (value 0 ones) tenths) ∙ ap (λ (x : ℕ). held (value x tenths)) (sym o.number) ∙ sym p.number
 
-  pub digits-none : a.count + b.count ≡ 0 → digits_form minus (drop at s) ≡ other
-  digits-none h = opens ∙ rw (some_none (ones ++ tenths) (sym h ∙ sym many))
+  pub digits_none : a.count + b.count ≡ 0 → digits_form minus (drop at s) ≡ other
+  digits_none h = opens ∙ rw (some_none (ones ++ tenths) (sym h ∙ sym many))
 
-  pub digits-some : (a.count + b.count ≡ 0 → ⊥) → b.count + 22 < 10 ^ 19 → digits_form minus (drop at s) ≡ ◌>>=◌ (held_exponent (exponent (drop b.next s))) (scaled minus b.value b.count)
-  digits-some h l =
+  pub digits_some : (a.count + b.count ≡ 0 → ⊥) → b.count + 22 < 10 ^ 19 → digits_form minus (drop at s) ≡ ◌>>=◌ (held_exponent (exponent (drop b.next s))) (scaled minus b.value b.count)
+  digits_some h l =
       let d = value 0 (ones ++ tenths) in
       let e = exponent (drop b.next s) in
       opens
@@ -186,17 +186,17 @@ module _ (minus : Bool) (s : List ℕ) (at : ℕ) (a b : Digits) (o : Taken (run
 -- ---- inf, infinity, nan
 
 module _ (minus : Bool) (s : List ℕ) where
-  pub named-inf : word (ascii "inf") s ≡ true → named_form minus s ≡ got (inf minus)
+  pub named_inf : word (ascii "inf") s ≡ true → named_form minus s ≡ got (inf minus)
   unfolding named_form
-  named-inf e = rw e
+  named_inf e = rw e
 
-  pub named-infinity : word (ascii "inf") s ≡ false → word (ascii "infinity") s ≡ true → named_form minus s ≡ got (inf minus)
+  pub named_infinity : word (ascii "inf") s ≡ false → word (ascii "infinity") s ≡ true → named_form minus s ≡ got (inf minus)
   unfolding named_form
-  named-infinity e f = rw (e, f)
+  named_infinity e f = rw (e, f)
 
-  pub named-nan : word (ascii "inf") s ≡ false → word (ascii "infinity") s ≡ false → word (ascii "nan") s ≡ true → named_form minus s ≡ got nan
+  pub named_nan : word (ascii "inf") s ≡ false → word (ascii "infinity") s ≡ false → word (ascii "nan") s ≡ true → named_form minus s ≡ got nan
   unfolding named_form
-  named-nan e f g = rw (e, f, g)
+  named_nan e f g = rw (e, f, g)
 
   pub named_none : word (ascii "inf") s ≡ false → word (ascii "infinity") s ≡ false → word (ascii "nan") s ≡ false → named_form minus s ≡ other
   unfolding named_form

@@ -14,7 +14,7 @@ use Rattle.rules.specs.Floats.{decimals}
 use Rattle.rules.specs.Writing.{places, wide, spaced, integer_text, signed_year, year_short, three_decimals, floor_div, unix_seconds, unix_real, julian_real, julian_text}
 use Rattle.real.specs.InMinute.{in_minute}
 use Rattle.real.proofs.Epoch.{unix_thousandths, julian_billionths}
-use Rattle.real.proofs.Seconds.{minute-thousandths, minute-whole}
+use Rattle.real.proofs.Seconds.{minute_thousandths, minute_whole}
 use Rattle.real.proofs.Signs.{minus_pos, minus_neg}
 use Rattle.digits.specs.Writers.{unix_decimals}
 use Rattle.digits.proofs.Decimal.{length_places, length_exact, length_most}
@@ -48,30 +48,30 @@ length_short y = go (dec_lt y 40000) (ℕ_discrete ((40000 - y) % 100) 0)
 pub length_second : (x : Float) → in_minute x ≡ true → length (three_decimals 2 x) ≡ 6
 length_second x h =
     let t = decimals 3 x in
-    omega (arith, ap length (three_is 2 x t refl), length-append (wide 2 (t / 1000)) (46 ∷ places 3 t), length_exact 1 (t / 1000) (omega arith) (omega (arith, minute-thousandths x h)), length_places 3 t)
+    omega (arith, ap length (three_is 2 x t refl), length-append (wide 2 (t / 1000)) (46 ∷ places 3 t), length_exact 1 (t / 1000) (omega arith) (omega (arith, minute_thousandths x h)), length_places 3 t)
 
 -- ---- the seconds since the Unix epoch, in range
 module _ (t : ℕ) (low : instant 0 ≤ t) (high : t ≤ last) where
-  few-thousandths : (d : ℕ) → d ≡ decimals 3 (unix_real t) → length (wide 1 (d / 1000)) ≤ 12
-  few-thousandths d e = length_most 1 11 (d / 1000) (omega arith) (omega arith) (omega (arith, unix_thousandths t low high))
+  few_thousandths : (d : ℕ) → d ≡ decimals 3 (unix_real t) → length (wide 1 (d / 1000)) ≤ 12
+  few_thousandths d e = length_most 1 11 (d / 1000) (omega arith) (omega arith) (omega (arith, unix_thousandths t low high))
 
-  pub length-decimals : length (unix_decimals t) ≤ 17
-  length-decimals = go (decimals 3 (unix_real t)) refl (dec_lt t unix_epoch)
+  pub length_decimals : length (unix_decimals t) ≤ 17
+  length_decimals = go (decimals 3 (unix_real t)) refl (dec_lt t unix_epoch)
     where
       go : (d : ℕ) → d ≡ decimals 3 (unix_real t) → Dec (t < unix_epoch) → length (unix_decimals t) ≤ 17
-      go d e (yes h) = omega (arith, ap length (unix_is_minus t d h e), length-append (45 ∷ wide 1 (d / 1000)) (46 ∷ places 3 d), few-thousandths d e, length_places 3 d)
-      go d e (no h) = omega (arith, ap length (unix_is_plain t d (omega (arith, h)) e), length-append (wide 1 (d / 1000)) (46 ∷ places 3 d), few-thousandths d e, length_places 3 d)
+      go d e (yes h) = omega (arith, ap length (unix_is_minus t d h e), length-append (45 ∷ wide 1 (d / 1000)) (46 ∷ places 3 d), few_thousandths d e, length_places 3 d)
+      go d e (no h) = omega (arith, ap length (unix_is_plain t d (omega (arith, h)) e), length-append (wide 1 (d / 1000)) (46 ∷ places 3 d), few_thousandths d e, length_places 3 d)
 
-  few-seconds : nat_abs (unix_seconds t) < 10 ^ 12
+  few_seconds : nat_abs (unix_seconds t) < 10 ^ 12
   unfolding unix_seconds floor_div
-  few-seconds = go (dec_lt t unix_epoch)
+  few_seconds = go (dec_lt t unix_epoch)
     where
       go : Dec (t < unix_epoch) → nat_abs (floor_div (minus t unix_epoch) 1000) < 10 ^ 12
       go (yes h) = rw (minus_neg t unix_epoch h) (omega arith)
       go (no h) = rw (minus_pos t unix_epoch (omega (arith, h))) (omega arith)
 
-  pub length-seconds : length (integer_text (unix_seconds t)) ≤ 13
-  length-seconds = go (unix_seconds t) few-seconds
+  pub length_seconds : length (integer_text (unix_seconds t)) ≤ 13
+  length_seconds = go (unix_seconds t) few_seconds
     where
       go : (z : ℤ) → nat_abs z < 10 ^ 12 → length (integer_text z) ≤ 13
       go (pos n) h = unfold integer_text in omega (arith, length_most 1 11 n (omega arith) (omega arith) h)

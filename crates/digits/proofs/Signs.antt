@@ -22,15 +22,15 @@ above z f h = rw (to_z-of_z w64 z f) at h
 
 -- a number's text, by that test and the magnitude that the machine has
 module _ (z : ℤ) (f : SFits w64 z) (k : ℕ) (e : k ≡ nat_abs (to_z w64 (of_z w64 z))) where
-  pub minus-text : lt_z (to_z w64 (of_z w64 z)) (pos 0) ≡ true → integer_text z ≡ 45 ∷ wide 1 k
-  minus-text h = go z (below z f h) ∙ ap (λ (n : ℕ). 45 ∷ wide 1 n) (sym (e ∙ ap nat_abs (to_z-of_z w64 z f)))
+  pub minus_text : lt_z (to_z w64 (of_z w64 z)) (pos 0) ≡ true → integer_text z ≡ 45 ∷ wide 1 k
+  minus_text h = go z (below z f h) ∙ ap (λ (n : ℕ). 45 ∷ wide 1 n) (sym (e ∙ ap nat_abs (to_z-of_z w64 z f)))
     where
       go : (z : ℤ) → lt_z z (pos 0) ≡ true → integer_text z ≡ 45 ∷ wide 1 (nat_abs z)
       go (pos n) h = absurd (omega (arith, ltb-true n 0 h))
       go (negsuc n) h = unfold integer_text in refl
 
-  pub plain-text : lt_z (to_z w64 (of_z w64 z)) (pos 0) ≡ false → integer_text z ≡ wide 1 k
-  plain-text h = go z (above z f h) ∙ ap (wide 1) (sym (e ∙ ap nat_abs (to_z-of_z w64 z f)))
+  pub plain_text : lt_z (to_z w64 (of_z w64 z)) (pos 0) ≡ false → integer_text z ≡ wide 1 k
+  plain_text h = go z (above z f h) ∙ ap (wide 1) (sym (e ∙ ap nat_abs (to_z-of_z w64 z f)))
     where
       go : (z : ℤ) → lt_z z (pos 0) ≡ false → integer_text z ≡ wide 1 (nat_abs z)
       go (pos n) h = unfold integer_text in refl
@@ -45,8 +45,8 @@ module _ (z : ℤ) (f : SFits w64 z) (h : lt_z (to_z w64 (of_z w64 z)) (pos 0) �
   pub flipped : negsuc 0 -ℤ to_z w64 (of_z w64 z) ≡ pos (mag z)
   flipped = rw (to_z-of_z w64 z f) (flip z (below z f h))
 
-  pub flipped-back : to_z w64 (of_z w64 (negsuc 0 -ℤ to_z w64 (of_z w64 z))) ≡ pos (mag z)
-  flipped-back = rw flipped (to_z-of_z w64 (pos (mag z)) (record { sfits = f.sfits }))
+  pub flipped_back : to_z w64 (of_z w64 (negsuc 0 -ℤ to_z w64 (of_z w64 z))) ≡ pos (mag z)
+  flipped_back = rw flipped (to_z-of_z w64 (pos (mag z)) (record { sfits = f.sfits }))
 
 pub one_more : (z : ℤ) → lt_z z (pos 0) ≡ true → mag z + 1 ≡ nat_abs z
 one_more (pos n) h = absurd (omega (arith, ltb-true n 0 h))

@@ -14,30 +14,30 @@ use Rattle.digits.proofs.Decimal.{digit, places_are, wide_length, length_wide}
 
 module _ (f : ℕ → Bool) where
   -- a byte that stays ends what is dropped before it
-  every-stops : (s : List ℕ) (y : ℕ) (t : List ℕ) → f y ≡ false → every f (s ++ (y ∷ t)) ≡ false
+  every_stops : (s : List ℕ) (y : ℕ) (t : List ℕ) → f y ≡ false → every f (s ++ (y ∷ t)) ≡ false
   unfolding every
-  every-stops [] y t h = rw h
-  every-stops (b ∷ s) y t h = rw (every-stops s y t h) (last (f b))
+  every_stops [] y t h = rw h
+  every_stops (b ∷ s) y t h = rw (every_stops s y t h) (last (f b))
     where
       last : (b : Bool) → (b && false) ≡ false
       last true = refl
       last false = refl
 
-  pub trim-after : (s : List ℕ) (y : ℕ) (t : List ℕ) → f y ≡ false → trim_end f (s ++ (y ∷ t)) ≡ s ++ (y ∷ trim_end f t)
+  pub trim_after : (s : List ℕ) (y : ℕ) (t : List ℕ) → f y ≡ false → trim_end f (s ++ (y ∷ t)) ≡ s ++ (y ∷ trim_end f t)
   unfolding trim_end
-  trim-after [] y t h = rw (every-stops [] y t h)
-  trim-after (b ∷ s) y t h = rw (every-stops (b ∷ s) y t h, trim-after s y t h)
+  trim_after [] y t h = rw (every_stops [] y t h)
+  trim_after (b ∷ s) y t h = rw (every_stops (b ∷ s) y t h, trim_after s y t h)
 
   -- a last byte that is dropped
-  every-last : (s : List ℕ) (y : ℕ) → f y ≡ true → every f (s ++ (y ∷ [])) ≡ every f s
+  every_last : (s : List ℕ) (y : ℕ) → f y ≡ true → every f (s ++ (y ∷ [])) ≡ every f s
   unfolding every
-  every-last [] y h = rw h
-  every-last (b ∷ s) y h = rw (every-last s y h)
+  every_last [] y h = rw h
+  every_last (b ∷ s) y h = rw (every_last s y h)
 
-  pub trim-drop : (s : List ℕ) (y : ℕ) → f y ≡ true → trim_end f (s ++ (y ∷ [])) ≡ trim_end f s
+  pub trim_drop : (s : List ℕ) (y : ℕ) → f y ≡ true → trim_end f (s ++ (y ∷ [])) ≡ trim_end f s
   unfolding trim_end
-  trim-drop [] y h = unfold every in rw h
-  trim-drop (b ∷ s) y h = rw (every-last (b ∷ s) y h, trim-drop s y h)
+  trim_drop [] y h = unfold every in rw h
+  trim_drop (b ∷ s) y h = rw (every_last (b ∷ s) y h, trim_drop s y h)
 
 -- the last of some places
 pub places_last : (n v : ℕ) → places (suc n) v ≡ places n (v / 10) ++ ((48 + v % 10) ∷ [])
@@ -51,12 +51,12 @@ pub trim_more : (k v : ℕ) → 0 < k → v % 10 ≡ 0 → zeroes (places k v) �
 trim_more zero v h z = absurd (omega arith)
 trim_more (suc k) v h z =
     let e : suc k - 1 ≡ k = omega arith in
-    rw (e, places_last k v) (trim-drop (is "0") (places k (v / 10)) (48 + v % 10) (eq-eqb 48 (48 + v % 10) (omega arith)))
+    rw (e, places_last k v) (trim_drop (is "0") (places k (v / 10)) (48 + v % 10) (eq-eqb 48 (48 + v % 10) (omega arith)))
 
 pub trim_end_lem : (k v : ℕ) → 0 < k → (v % 10 ≡ 0 → ⊥) → places k v ≡ zeroes (places k v)
 unfolding trim_end
 trim_end_lem zero v h n = absurd (omega arith)
-trim_end_lem (suc k) v h n = rw (places_last k v) (sym (trim-after (is "0") (places k (v / 10)) (48 + v % 10) [] (ne_eqb 48 (48 + v % 10) (λ e. n (omega arith)))))
+trim_end_lem (suc k) v h n = rw (places_last k v) (sym (trim_after (is "0") (places k (v / 10)) (48 + v % 10) [] (ne_eqb 48 (48 + v % 10) (λ e. n (omega arith)))))
 
 pub trim_none : (k v : ℕ) → k ≡ 0 → places k v ≡ zeroes (places k v)
 unfolding places trim_end
@@ -70,7 +70,7 @@ points s zero v h = absurd (omega arith)
 points s (suc k) v h =
     let d = 48 + v % 10 in
     let e : s ++ places (suc k) v ≡ (s ++ places k (v / 10)) ++ (d ∷ []) = ap (λ (l : List ℕ). s ++ l) (places_last k v) ∙ sym (append_assoc s (places k (v / 10)) (d ∷ [])) in
-    rw e (trim-after (is ".") (s ++ places k (v / 10)) d [] (ne_eqb 46 d (λ z. omega arith)))
+    rw e (trim_after (is ".") (s ++ places k (v / 10)) d [] (ne_eqb 46 d (λ z. omega arith)))
 
 points_wide : (v : ℕ) → trim_end (is ".") (wide 1 v) ≡ wide 1 v
 points_wide v = let l : 0 < length (wide 1 v) = omega (arith, length_wide 1 v) in rw (← wide_length 1 v) (points [] (length (wide 1 v)) v l)
@@ -81,12 +81,12 @@ module _ (t n k v : ℕ) (e : n ≡ decimals 9 (julian_real t)) (z : places k v 
 
   trimmed : julian_text t ≡ trim_end (is ".") (whole ++ (46 ∷ places k v))
   unfolding julian_text whole
-  trimmed = rw (← e, append_assoc (wide 1 (n / 1000000000)) (46 ∷ []) (places 9 n), trim-after (is "0") (wide 1 (n / 1000000000)) 46 (places 9 n) refl, z)
+  trimmed = rw (← e, append_assoc (wide 1 (n / 1000000000)) (46 ∷ []) (places 9 n), trim_after (is "0") (wide 1 (n / 1000000000)) 46 (places 9 n) refl, z)
 
-  pub julian-whole : k ≡ 0 → julian_text t ≡ wide 1 (n / 1000000000)
+  pub julian_whole : k ≡ 0 → julian_text t ≡ wide 1 (n / 1000000000)
   unfolding whole places
-  julian-whole h = trimmed ∙ rw h (trim-drop (is ".") whole 46 refl ∙ points_wide (n / 1000000000))
+  julian_whole h = trimmed ∙ rw h (trim_drop (is ".") whole 46 refl ∙ points_wide (n / 1000000000))
 
-  pub julian-point : 0 < k → julian_text t ≡ (wide 1 (n / 1000000000) ++ (46 ∷ [])) ++ places k v
+  pub julian_point : 0 < k → julian_text t ≡ (wide 1 (n / 1000000000) ++ (46 ∷ [])) ++ places k v
   unfolding whole
-  julian-point h = trimmed ∙ rw (← append_assoc whole (46 ∷ []) (places k v)) (points (whole ++ (46 ∷ [])) k v h)
+  julian_point h = trimmed ∙ rw (← append_assoc whole (46 ∷ []) (places k v)) (points (whole ++ (46 ∷ [])) k v h)

@@ -235,13 +235,13 @@ Steps f = (n : Float) (p : Moment) → Gives Fresh (f n p)
 
 units_keep : Rows Steps units
 unfolding by_length by_months
-units_keep = length-keeps _ _ and length-keeps _ _ and length-keeps _ _ and length-keeps _ _ and length-keeps _ _ and length-keeps _ _ and length-keeps _ _ and length-keeps _ _ and months-keep _ _ _ and months-keep _ _ _ and months-keep _ _ _ and months-keep _ _ _ and all
+units_keep = length_keeps _ _ and length_keeps _ _ and length_keeps _ _ and length_keeps _ _ and length_keeps _ _ and length_keeps _ _ and length_keeps _ _ and length_keeps _ _ and months_keep _ _ _ and months_keep _ _ _ and months_keep _ _ _ and months_keep _ _ _ and all
   where
-    length-keeps : (limit unit : Float) → Steps (by_length limit unit)
-    length-keeps limit unit n p = gives_provided Fresh (below n limit) _ refl
+    length_keeps : (limit unit : Float) → Steps (by_length limit unit)
+    length_keeps limit unit n p = gives_provided Fresh (below n limit) _ refl
 
-    months-keep : (limit : Float) (k : ℕ) (days : Float) → Steps (by_months limit k days)
-    months-keep limit k days n p = gives_provided Fresh (below n limit) _ refl
+    months_keep : (limit : Float) (k : ℕ) (days : Float) → Steps (by_months limit k days)
+    months_keep limit k days n p = gives_provided Fresh (below n limit) _ refl
 
 unit_step_lem : (s : List ℕ) (p : Moment) → Gives Fresh (unit_step s p)
 unfolding unit_step
@@ -370,7 +370,7 @@ uncounted_filled q c t = count_settled q c t
 
 pub fill_settled : (p : Moment) → Sound p → Filled (fill_date p)
 unfolding fill_date
-fill_settled p h = either-known p.dated refl
+fill_settled p h = either_known p.dated refl
   where
     ranged : (b : Bool) → in_range p.ms ≡ b → p.counted ≡ true → Filled (if b then on_date p (civil p.ms) else failure)
     ranged true r c = counted_filled (on_date p (civil p.ms)) c (inl r)
@@ -384,9 +384,9 @@ fill_settled p h = either-known p.dated refl
     standing true c d t = counted_filled p c (h d c t) t
     standing false c d t = uncounted_filled p c t
 
-    either-known : (b : Bool) → p.dated ≡ b → Filled (if b then p else (if p.counted then (if in_range p.ms then on_date p (civil p.ms) else failure) else set_dated (set_date p (year 2000) 1 1) true))
-    either-known true d = standing p.counted refl d
-    either-known false d = known p.counted refl
+    either_known : (b : Bool) → p.dated ≡ b → Filled (if b then p else (if p.counted then (if in_range p.ms then on_date p (civil p.ms) else failure) else set_dated (set_date p (year 2000) 1 1) true))
+    either_known true d = standing p.counted refl d
+    either_known false d = known p.counted refl
 
 -- a record whose date is renewed
 pub renewed_sound : (p : Moment) → Sound (set_dated p false)

@@ -15,13 +15,13 @@ use Rattle.rules.specs.Reading.{space, fraction_of, fraction, seconds_in, second
 use Rattle.rules.specs.Writing.{places}
 use Rattle.rules.specs.declared.Time.{Time}
 use Rattle.text.specs.Places.{begins}
-use Rattle.real.proofs.Seconds.{fraction_none, exact-ms}
+use Rattle.real.proofs.Seconds.{fraction_none, exact_ms}
 use Rattle.reading.specs.Readers.{east_by, west_by}
 use Rattle.reading.proofs.Places.{Stops, digits_places, run_digits}
 use Rattle.reading.proofs.Fractions.{no_point}
 use Rattle.reading.proofs.Stamps.{digits_of}
 use Rattle.reading.proofs.Times.{time_of_lem}
-use Rattle.reading.proofs.Zones.{no_zone_lem, hour-and-minute, minutes, zone-upper, zone-east, zone-west}
+use Rattle.reading.proofs.Zones.{no_zone_lem, hour_and_minute, minutes, zone_upper, zone_east, zone_west}
 use Rattle.law_putback.proofs.Seconds.{as_read}
 use Rattle.law_page.specs.Stands.{ClockIs}
 use Rattle.law_page.specs.Numerals.{digits_text}
@@ -51,14 +51,14 @@ hours : (h m : ℕ) → h ≤ 14 → m ≤ 59 → hours_minutes (places 2 h ++ (
 unfolding skip
 hours h m a b =
     minutes (places 2 h ++ (58 ∷ places 2 m)) h m []
-    (hour-and-minute 14 _ h _ (digits_places 2 0 14 h _ (omega arith) (omega arith) a) _ refl m _ (ap (digits 2 0 59) (sym (append-nil (places 2 m))) ∙ digits_places 2 0 59 m [] (omega arith) (omega arith) b))
+    (hour_and_minute 14 _ h _ (digits_places 2 0 14 h _ (omega arith) (omega arith) a) _ refl m _ (ap (digits 2 0 59) (sym (append-nil (places 2 m))) ∙ digits_places 2 0 59 m [] (omega arith) (omega arith) b))
 
 pub zone_read : (z : Zone) → IsZone z → zone_in (skip space (zone_text z)) ≡ got (held z, is_utc z)
 unfolding skip places
 zone_read none h = no_zone_lem
-zone_read zulu h = zone-upper []
-zone_read (plus h m) (a, b) = zone-east _ ∙ ap east_by (hours h m a b)
-zone_read (minus h m) (a, b) = zone-west _ ∙ ap west_by (hours h m a b)
+zone_read zulu h = zone_upper []
+zone_read (plus h m) (a, b) = zone_east _ ∙ ap east_by (hours h m a b)
+zone_read (minus h m) (a, b) = zone_west _ ∙ ap west_by (hours h m a b)
 
 -- a zone begins with no digit, no colon and no point
 pub record Follows (l : List ℕ) : Type 0 where
@@ -130,7 +130,7 @@ time_read c z i j =
     let l = zone_text z in
     ap time (from_hour c l)
     ∙ time_of_lem _ (hour_of c) (minute_of c) (second_text c ++ l)
-    (hour-and-minute 24 _ (hour_of c) _ (digits_places 2 0 24 (hour_of c) _ (omega arith) (omega arith) (omega arith)) _ refl (minute_of c) _ (digits_places 2 0 59 (minute_of c) _ (omega arith) (omega arith) b))
+    (hour_and_minute 24 _ (hour_of c) _ (digits_places 2 0 24 (hour_of c) _ (omega arith) (omega arith) (omega arith)) _ refl (minute_of c) _ (digits_places 2 0 59 (minute_of c) _ (omega arith) (omega arith) b))
     (second_of c) l (seconds_read c l i (zone_follows z)) (held z) (is_utc z) (zone_read z j)
 
 no_second_ms : seconds_ms (number 0) ≡ 0
@@ -140,8 +140,8 @@ no_second_ms = refl
 pub time_ms_lem : (c : Clock) → IsTime c → time_ms (hour_of c) (minute_of c) (second_of c) ≡ clock_ms c
 unfolding value
 time_ms_lem (hm h m) i = omega (arith, no_second_ms)
-time_ms_lem (hms h m s) i = omega (arith, exact-ms [] s tt (omega arith) i.2 0 (omega arith) refl)
-time_ms_lem (hmsf h m s ds k) i = let F = i.3 in ap (λ (n : ℕ). h * 3600000 + m * 60000 + n) (exact-ms ds s (digits_of ds F.digits) F.few i.2 k F.millis F.is)
+time_ms_lem (hms h m s) i = omega (arith, exact_ms [] s tt (omega arith) i.2 0 (omega arith) refl)
+time_ms_lem (hmsf h m s ds k) i = let F = i.3 in ap (λ (n : ℕ). h * 3600000 + m * 60000 + n) (exact_ms ds s (digits_of ds F.digits) F.few i.2 k F.millis F.is)
 
 pub in_day : (c : Clock) → IsTime c → clock_ms c < day_length
 in_day (hm h m) i = omega (arith, i.0, i.1)

@@ -16,7 +16,7 @@ use Rattle.moment.specs.Ranges.{sum_takes}
 use Rattle.moment.specs.Sums.{date_meant, time_meant}
 use Rattle.moment.proofs.Steps.{already, in_time, in_range_lem, date_stands, date_unknown, date_filled, time_stands, time_filled}
 use Rattle.moment.proofs.Sums.{count_sums, sums_zoneless}
-use Rattle.real.proofs.Seconds.{filled-ms}
+use Rattle.real.proofs.Seconds.{filled_ms}
 use Rattle.law_putback.proofs.Seconds.{Prints, as_filled}
 use Rattle.timediff.specs.Promise.{StandsFor, Counts}
 use Rattle.law_page.specs.Stands.{ymd, ClockIs, Stands}
@@ -36,8 +36,8 @@ no_ms = refl
 
 -- ---- counted
 module _ {t : ℕ} {p : Moment} (S : Stands t p) where
-  date-meant : p.counted ≡ false → civil t ≡ date_meant p
-  date-meant c = go p.dated refl
+  date_meant_lem : p.counted ≡ false → civil t ≡ date_meant p
+  date_meant_lem c = go p.dated refl
     where
       go : (b : Bool) → p.dated ≡ b → civil t ≡ (if b then ymd p.year p.month p.day else ymd (year 2000) 1 1)
       go true e = S.date_is e
@@ -46,15 +46,15 @@ module _ {t : ℕ} {p : Moment} (S : Stands t p) where
   abbrev time_of : Bool → Time
   time_of b = if b then record { hour = p.hour; minute = p.minute; second = p.second; zone = p.zone; utc = false } else record { hour = 0; minute = 0; second = number 0; zone = no_zone; utc = false }
 
-  time-meant : p.counted ≡ false → time_ms (time_meant p).hour (time_meant p).minute (time_meant p).second ≡ time_of_day t
-  time-meant c = go p.timed refl
+  time_meant_lem : p.counted ≡ false → time_ms (time_meant p).hour (time_meant p).minute (time_meant p).second ≡ time_of_day t
+  time_meant_lem c = go p.timed refl
     where
       go : (b : Bool) → p.timed ≡ b → time_ms (time_of b).hour (time_of b).minute (time_of b).second ≡ time_of_day t
       go true e = S.time_is e
       go false e = no_ms ∙ sym (S.no_time e c)
 
-  zone-meant : (time_meant p).zone ≡ no_zone
-  zone-meant = go p.timed
+  zone_meant : (time_meant p).zone ≡ no_zone
+  zone_meant = go p.timed
     where
       go : (b : Bool) → (time_of b).zone ≡ no_zone
       go true = S.no_zone_lem
@@ -68,8 +68,8 @@ module _ {t : ℕ} {p : Moment} (S : Stands t p) where
       go false e = refl
       go true e = never (sym (S.number e).0 ∙ c)
 
-  pub timed-not-raw : p.timed ≡ true → p.raw ≡ false
-  timed-not-raw c = go p.raw refl
+  pub timed_not_raw : p.timed ≡ true → p.raw ≡ false
+  timed_not_raw c = go p.raw refl
     where
       go : (b : Bool) → p.raw ≡ b → b ≡ false
       go false e = refl
@@ -83,17 +83,17 @@ module _ {t : ℕ} {p : Moment} (S : Stands t p) where
       go false c =
           let (l, h) = S.fields c in
           let D = date_of_lem t h in
-          let d = date-meant c in
+          let d = date_meant_lem c in
           let e = subst (λ (d : Ymd). midnight d.year d.month d.day + time_of_day t ≡ t) d (there_and_back t l h) in
           let low = subst (λ (d : Ymd). minus_year 4713 ≤ d.year) d D.low in
           let high = subst (λ (d : Ymd). d.year ≤ year 9999) d D.high in
           let takes : sum_takes (date_meant p).year p.raw ≡ true = sym (in_time (date_meant p).year p.raw low high) ∙ ap not (not_raw c) in
-          sym (sums_zoneless p t (time_meant p).zone zone-meant ∙ count_sums p (date_meant p) (time_meant p) t refl refl (omega (arith, e, time-meant c, zone-meant)) c takes)
+          sym (sums_zoneless p t (time_meant p).zone zone_meant ∙ count_sums p (date_meant p) (time_meant p) t refl refl (omega (arith, e, time_meant_lem c, zone_meant)) c takes)
 
 -- ---- filled
 -- a time of day, as it is filled in
 filled_time : (u : ℕ) → u < day_length → time_ms (u / 3600000) (u / 60000 % 60) (number (u % 60000) ⊘ number 1000) ≡ u
-filled_time u h = let m = filled-ms (u % 60000) (omega arith) in let q : u / 60000 / 60 ≡ u / 3600000 = omega arith in omega (arith, m)
+filled_time u h = let m = filled_ms (u % 60000) (omega arith) in let q : u / 60000 / 60 ≡ u / 3600000 = omega arith in omega (arith, m)
 
 filled_clock : (u : ℕ) → ClockIs u (u / 3600000) (u / 60000 % 60) (number (u % 60000) ⊘ number 1000)
 filled_clock u =
@@ -155,7 +155,7 @@ as_fields {t} {p} F =
       is_dated = F.dated;
       is_timed = F.timed;
       no_zone_lem = S.no_zone_lem;
-      not_raw = timed-not-raw S F.timed;
+      not_raw = timed_not_raw S F.timed;
       not_failed = S.not_failed;
     }
 
@@ -163,7 +163,7 @@ as_fields {t} {p} F =
 pub again : {t : ℕ} {p : Moment} → Full t p → InRange t → Stands t (set_counted p false)
 again {t} {p} F R =
     let S = F.stands in
-    record { ms_is = λ h. never (sym h); date_is = S.date_is; no_date = λ h _. never (sym F.dated ∙ h); time_is = S.time_is; clock_is = S.clock_is; no_time = λ h _. never (sym F.timed ∙ h); fields = λ _. (from_start t R.from, R.to); no_zone_lem = S.no_zone_lem; number = λ h. never (sym h ∙ timed-not-raw S F.timed); something = rw F.dated; not_failed = S.not_failed }
+    record { ms_is = λ h. never (sym h); date_is = S.date_is; no_date = λ h _. never (sym F.dated ∙ h); time_is = S.time_is; clock_is = S.clock_is; no_time = λ h _. never (sym F.timed ∙ h); fields = λ _. (from_start t R.from, R.to); no_zone_lem = S.no_zone_lem; number = λ h. never (sym h ∙ timed_not_raw S F.timed); something = rw F.dated; not_failed = S.not_failed }
 
 -- only milliseconds stand
 pub only_ms : {t : ℕ} {p : Moment} → Counts t p → Stands t p

@@ -32,15 +32,15 @@ use Rattle.moment.proofs.Sums.{settled_not, settled_sums, sums_zoned, count_sums
 use Rattle.law_putback.proofs.Years.{in_range_lem}
 use Rattle.reading.specs.Readers.{year_month_day}
 use Rattle.reading.proofs.Places.{Stops, digits_places, skip_run}
-use Rattle.reading.proofs.Dates.{time-form, time_follows, ymd, date-and-time, no_minus, no_date, no-year}
-use Rattle.reading.proofs.Values.{is-date, is-time}
+use Rattle.reading.proofs.Dates.{time_form_lem, time_follows, ymd, date_and_time, no_minus, no_date, no_year}
+use Rattle.reading.proofs.Values.{is_date, is_time}
 use Rattle.timediff.specs.Promise.{Counts}
 use Rattle.law_page.specs.Stands.{ClockIs, Stands, Leads, CountsTo}
 use Rattle.law_page.specs.Numerals.{Sign, is_minus, Writes, whole_text}
 use Rattle.law_page.specs.TimeValues.{date_text, IsDate, Clock, clock_text, clock_ms, IsTime, Zone, none, zone_text, IsZone, to_zulu, TimeValues}
 use Rattle.law_page.proofs.Stands.{never, stands_as, stands_at, only_ms, clock_as}
 use Rattle.law_page.proofs.Floats.{is_julian_lem, julian_exact}
-use Rattle.law_page.proofs.Epoch.{text-number}
+use Rattle.law_page.proofs.Epoch.{text_number}
 use Rattle.law_page.proofs.Clocks.{held, is_utc, zulu_is, hour_of, time_of, from_hour, time_read, time_ms_lem, in_day, clock_parts}
 
 pub leads_as : {r s : _} → r ≡ s → {t : ℕ} → Leads s t → Leads r t
@@ -61,11 +61,11 @@ module _ (y m d : ℕ) (tm : Time) where
     range : InRange (midnight y m d + into)
     range = in_range_lem y m d into low high (month_day _ _ _ E) inside
 
-    fields-stand : (u : Bool) → tm.zone ≡ no_zone → Stands (midnight y m d + into) (dated u)
+    fields_stand : (u : Bool) → tm.zone ≡ no_zone → Stands (midnight y m d + into) (dated u)
     unfolding past_end
-    fields-stand true z =
+    fields_stand true z =
         record { ms_is = λ h. never (sym h); date_is = λ _. date_again y m d into E (omega arith) high inside; no_date = λ h _. never h; time_is = λ _. sym (time_again y m d into inside); clock_is = λ _. clock_as (time_again y m d into inside) C; no_time = λ h _. never h; fields = λ _. (omega (arith, start_is, range.from), range.to); no_zone_lem = z; number = λ h. never (sym h); something = refl; not_failed = refl }
-    fields-stand false z =
+    fields_stand false z =
         record { ms_is = λ h. never (sym h); date_is = λ _. date_again y m d into E (omega arith) high inside; no_date = λ h _. never h; time_is = λ _. sym (time_again y m d into inside); clock_is = λ _. clock_as (time_again y m d into inside) C; no_time = λ h _. never h; fields = λ _. (omega (arith, start_is, range.from), range.to); no_zone_lem = z; number = λ h. never (sym h); something = refl; not_failed = refl }
 
     takes : sum_takes y false ≡ true
@@ -84,19 +84,19 @@ module _ (y m d : ℕ) (tm : Time) where
     zoned true z = sums_zoned (dated true) zulu tm.zone z ∙ settled_sums (dated true) zulu (record { fresh = record { uncounted = refl; timed = λ _. refl }; dated = refl }) refl z takes
     zoned false z = sums_zoned (dated false) zulu tm.zone z ∙ settled_sums (dated false) zulu (record { fresh = record { uncounted = refl; timed = λ _. refl }; dated = refl }) refl z takes
 
-    zone-is : (u : Bool) → (dated u).zone ≡ tm.zone
+    zone_is : (u : Bool) → (dated u).zone ≡ tm.zone
     unfolding past_end
-    zone-is true = refl
-    zone-is false = refl
+    zone_is true = refl
+    zone_is false = refl
 
-    pub settled-stands : (u : Bool) → Stands zulu (settled (dated u))
-    settled-stands u = go (eqb tm.zone no_zone) refl
+    pub settled_stands : (u : Bool) → Stands zulu (settled (dated u))
+    settled_stands u = go (eqb tm.zone no_zone) refl
       where
         go : (b : Bool) → eqb tm.zone no_zone ≡ b → Stands zulu (settled (dated u))
         go true e =
             let z = eqb-true tm.zone no_zone e in
             let n : zulu ≡ midnight y m d + into = rw z (omega arith) in
-            stands_at n (stands_as (sym (settled_not (dated u) (zone-is u ∙ z))) (fields-stand u z))
+            stands_at n (stands_as (sym (settled_not (dated u) (zone_is u ∙ z))) (fields_stand u z))
         go false e = let z = eqb-false tm.zone no_zone e in stands_as (sym (zoned u z)) (only_ms (only u))
 
 -- ---- a date alone
@@ -131,7 +131,7 @@ ymd_read y m d l F =
     d _ (digits_places 2 1 31 d _ (omega arith) e.day_low e.day_high)
 
 date_read : (clock y m d : ℕ) (l : List ℕ) (p : Moment) → IsDate y m d → time_after (skip gap l) ≡ got p → text_value clock (from_date y m d l) ≡ got (settled (past_end (set_dated (set_date p (year y) m d) true)))
-date_read clock y m d l p F h = is-date clock (from_date y m d l) _ (no_minus (from_date y m d l) (date_begins y m d l) ∙ date-and-time year (from_date y m d l) y m d l (ymd_read y m d l F) p h)
+date_read clock y m d l p F h = is_date clock (from_date y m d l) _ (no_minus (from_date y m d l) (date_begins y m d l) ∙ date_and_time year (from_date y m d l) y m d l (ymd_read y m d l F) p h)
 
 -- format 1
 format_1 : (clock y m d : ℕ) → IsDate y m d → Leads (time_value clock (bytes (date_text y m d))) (midnight (year y) m d)
@@ -148,30 +148,30 @@ module _ (clock y m d : ℕ) (c : Clock) (z : Zone) (F : IsDate y m d) (i : IsTi
   abbrev tail : List ℕ
   tail = clock_text c ++ zone_text z
 
-  tail-begins : Stops gap tail × (0 < length tail)
+  tail_begins : Stops gap tail × (0 < length tail)
   unfolding places
-  tail-begins = rw (from_hour c (zone_text z)) ((first_digit (hour_of c / 10 % 10) (omega arith)).0, omega arith)
+  tail_begins = rw (from_hour c (zone_text z)) ((first_digit (hour_of c / 10 % 10) (omega arith)).0, omega arith)
 
   after : (b : ℕ) → gap b ≡ true → time_after (skip gap (b ∷ tail)) ≡ got (timed (time_of c z))
   unfolding skip every
-  after b g = let e : skip gap (b ∷ tail) ≡ tail = rw g (skip_run gap [] tail refl tail-begins.0) in ap time_after e ∙ time_follows tail tail-begins.1 ∙ time-form tail (time_of c z) (time_read c z i j)
+  after b g = let e : skip gap (b ∷ tail) ≡ tail = rw g (skip_run gap [] tail refl tail_begins.0) in ap time_after e ∙ time_follows tail tail_begins.1 ∙ time_form_lem tail (time_of c z) (time_read c z i j)
 
   stands : Stands (to_zulu z (midnight (year y) m d + clock_ms c)) (settled (dated (year y) m d (time_of c z) (is_utc z)))
   stands =
       let ms = time_ms_lem c i in
-      let s = settled-stands (year y) m d (time_of c z) F.exists (omega arith) (omega (arith, F.years)) (rw ms (in_day c i)) (clock_as ms (clock_parts c i)) (is_utc z) in
+      let s = settled_stands (year y) m d (time_of c z) F.exists (omega arith) (omega (arith, F.years)) (rw ms (in_day c i)) (clock_as ms (clock_parts c i)) (is_utc z) in
       stands_at (sym (zulu_is z (midnight (year y) m d + clock_ms c) j) ∙ ap (λ (n : ℕ). midnight (year y) m d + n + no_zone * 60000 - held z * 60000) (sym ms)) s
 
-  with-time : (b : ℕ) → gap b ≡ true → Leads (text_value clock (from_date y m d (b ∷ tail))) (to_zulu z (midnight (year y) m d + clock_ms c))
-  with-time b g = record { moment = settled (dated (year y) m d (time_of c z) (is_utc z)); reads = date_read clock y m d (b ∷ tail) (timed (time_of c z)) F (after b g); stands = stands }
+  with_time_lem : (b : ℕ) → gap b ≡ true → Leads (text_value clock (from_date y m d (b ∷ tail))) (to_zulu z (midnight (year y) m d + clock_ms c))
+  with_time_lem b g = record { moment = settled (dated (year y) m d (time_of c z) (is_utc z)); reads = date_read clock y m d (b ∷ tail) (timed (time_of c z)) F (after b g); stands = stands }
 
-  format-2 : Leads (time_value clock (bytes (date_text y m d ++ ascii " " ++ clock_text c ++ zone_text z))) (to_zulu z (midnight (year y) m d + clock_ms c))
+  format_2 : Leads (time_value clock (bytes (date_text y m d ++ ascii " " ++ clock_text c ++ zone_text z))) (to_zulu z (midnight (year y) m d + clock_ms c))
   unfolding time_value
-  format-2 = leads_as (ap (text_value clock) (simp append_assoc)) (with-time 32 refl)
+  format_2 = leads_as (ap (text_value clock) (simp append_assoc)) (with_time_lem 32 refl)
 
-  format-5 : Leads (time_value clock (bytes (date_text y m d ++ ascii "T" ++ clock_text c ++ zone_text z))) (to_zulu z (midnight (year y) m d + clock_ms c))
+  format_5 : Leads (time_value clock (bytes (date_text y m d ++ ascii "T" ++ clock_text c ++ zone_text z))) (to_zulu z (midnight (year y) m d + clock_ms c))
   unfolding time_value
-  format-5 = leads_as (ap (text_value clock) (simp append_assoc)) (with-time 84 refl)
+  format_5 = leads_as (ap (text_value clock) (simp append_assoc)) (with_time_lem 84 refl)
 
 -- ---- formats 8 to 10
 new_year : Exists (year 2000) 1 1
@@ -187,43 +187,43 @@ unfolding places
 hour_begins h l = (first_digit (h / 10 % 10) (omega arith)).1
 
 module _ (clock : ℕ) (c : Clock) (z : Zone) (i : IsTime c) (j : IsZone z) where
-  no-date-form : date_form (clock_text c ++ zone_text z) ≡ other
-  no-date-form =
+  no_date_form : date_form (clock_text c ++ zone_text z) ≡ other
+  no_date_form =
       ap date_form (from_hour c (zone_text z))
       ∙ no_minus _ (hour_begins (hour_of c) _)
-      ∙ no_date year _ (no-year 1 12 31 _ (digits_other 4 0 9999 _ (no_year_of (hour_of c) _)))
+      ∙ no_date year _ (no_year 1 12 31 _ (digits_other 4 0 9999 _ (no_year_of (hour_of c) _)))
 
-  pub read-time : text_value clock (clock_text c ++ zone_text z) ≡ got (timed (time_of c z))
-  read-time = is-time clock (clock_text c ++ zone_text z) no-date-form (timed (time_of c z)) (time-form (clock_text c ++ zone_text z) (time_of c z) (time_read c z i j))
+  pub read_time : text_value clock (clock_text c ++ zone_text z) ≡ got (timed (time_of c z))
+  read_time = is_time clock (clock_text c ++ zone_text z) no_date_form (timed (time_of c z)) (time_form_lem (clock_text c ++ zone_text z) (time_of c z) (time_read c z i j))
 
 module _ (tm : Time) (inside : time_ms tm.hour tm.minute tm.second < day_length) (C : ClockIs (time_ms tm.hour tm.minute tm.second) tm.hour tm.minute tm.second) where
   abbrev ms : ℕ
   ms = time_ms tm.hour tm.minute tm.second
 
-  abbrev base-2000 : Bool → Moment
-  base-2000 u = let p = set_zone (set_timed (set_time blank tm.hour tm.minute tm.second) true) tm.zone in if u then set_utc p else p
+  abbrev base_2000 : Bool → Moment
+  base_2000 u = let p = set_zone (set_timed (set_time blank tm.hour tm.minute tm.second) true) tm.zone in if u then set_utc p else p
 
-  range-2000 : InRange (midnight (year 2000) 1 1 + ms)
-  range-2000 = in_range_lem (year 2000) 1 1 ms (lit≤ tt) (lit≤ tt) (month_day _ _ _ new_year) inside
+  range_2000 : InRange (midnight (year 2000) 1 1 + ms)
+  range_2000 = in_range_lem (year 2000) 1 1 ms (lit≤ tt) (lit≤ tt) (month_day _ _ _ new_year) inside
 
-  time_stands : (u : Bool) → tm.zone ≡ no_zone → Stands (midnight (year 2000) 1 1 + ms) (base-2000 u)
+  time_stands : (u : Bool) → tm.zone ≡ no_zone → Stands (midnight (year 2000) 1 1 + ms) (base_2000 u)
   time_stands true h =
-      record { ms_is = λ h. never (sym h); date_is = λ h. never (sym h); no_date = λ _ _. date_again (year 2000) 1 1 ms new_year (lit≤ tt) (lit≤ tt) inside; time_is = λ _. sym (time_again (year 2000) 1 1 ms inside); clock_is = λ _. clock_as (time_again (year 2000) 1 1 ms inside) C; no_time = λ h _. never h; fields = λ _. (omega (arith, start_is, range-2000.from), range-2000.to); no_zone_lem = h; number = λ h. never (sym h); something = refl; not_failed = refl }
+      record { ms_is = λ h. never (sym h); date_is = λ h. never (sym h); no_date = λ _ _. date_again (year 2000) 1 1 ms new_year (lit≤ tt) (lit≤ tt) inside; time_is = λ _. sym (time_again (year 2000) 1 1 ms inside); clock_is = λ _. clock_as (time_again (year 2000) 1 1 ms inside) C; no_time = λ h _. never h; fields = λ _. (omega (arith, start_is, range_2000.from), range_2000.to); no_zone_lem = h; number = λ h. never (sym h); something = refl; not_failed = refl }
   time_stands false h =
-      record { ms_is = λ h. never (sym h); date_is = λ h. never (sym h); no_date = λ _ _. date_again (year 2000) 1 1 ms new_year (lit≤ tt) (lit≤ tt) inside; time_is = λ _. sym (time_again (year 2000) 1 1 ms inside); clock_is = λ _. clock_as (time_again (year 2000) 1 1 ms inside) C; no_time = λ h _. never h; fields = λ _. (omega (arith, start_is, range-2000.from), range-2000.to); no_zone_lem = h; number = λ h. never (sym h); something = refl; not_failed = refl }
+      record { ms_is = λ h. never (sym h); date_is = λ h. never (sym h); no_date = λ _ _. date_again (year 2000) 1 1 ms new_year (lit≤ tt) (lit≤ tt) inside; time_is = λ _. sym (time_again (year 2000) 1 1 ms inside); clock_is = λ _. clock_as (time_again (year 2000) 1 1 ms inside) C; no_time = λ h _. never h; fields = λ _. (omega (arith, start_is, range_2000.from), range_2000.to); no_zone_lem = h; number = λ h. never (sym h); something = refl; not_failed = refl }
 
-  abbrev zulu-2000 : ℕ
-  zulu-2000 = midnight (year 2000) 1 1 + ms + no_zone * 60000 - tm.zone * 60000
+  abbrev zulu_2000 : ℕ
+  zulu_2000 = midnight (year 2000) 1 1 + ms + no_zone * 60000 - tm.zone * 60000
 
   abbrev Good : Moment → Type 0
-  Good q = (q.ms ≡ zulu-2000) × (q.failed ≡ false)
+  Good q = (q.ms ≡ zulu_2000) × (q.failed ≡ false)
 
-  good : (p : Moment) → p.failed ≡ false → Good (if eqb tm.zone no_zone then counted p zulu-2000 else set_utc (clear (counted p zulu-2000)))
+  good : (p : Moment) → p.failed ≡ false → Good (if eqb tm.zone no_zone then counted p zulu_2000 else set_utc (clear (counted p zulu_2000)))
   good p f = either Good (eqb tm.zone no_zone) _ _ (refl, f) (refl, f)
 
-  time-counts : (u : Bool) → Good (count_ms (base-2000 u))
-  time-counts true = subst Good (count_sums (base-2000 true) (date_meant (base-2000 true)) (time_meant (base-2000 true)) zulu-2000 refl refl refl refl refl) (good (base-2000 true) refl)
-  time-counts false = subst Good (count_sums (base-2000 false) (date_meant (base-2000 false)) (time_meant (base-2000 false)) zulu-2000 refl refl refl refl refl) (good (base-2000 false) refl)
+  time_counts : (u : Bool) → Good (count_ms (base_2000 u))
+  time_counts true = subst Good (count_sums (base_2000 true) (date_meant (base_2000 true)) (time_meant (base_2000 true)) zulu_2000 refl refl refl refl refl) (good (base_2000 true) refl)
+  time_counts false = subst Good (count_sums (base_2000 false) (date_meant (base_2000 false)) (time_meant (base_2000 false)) zulu_2000 refl refl refl refl refl) (good (base_2000 false) refl)
 
 format_8 : (clock : ℕ) (c : Clock) → IsTime c → Leads (time_value clock (bytes (clock_text c))) (midnight (year 2000) 1 1 + clock_ms c)
 unfolding time_value
@@ -231,7 +231,7 @@ format_8 clock c i =
     let e = time_ms_lem c i in
     record {
       moment = timed (time_of c none);
-      reads = ap (text_value clock) (sym (append-nil (clock_text c))) ∙ read-time clock c none i tt;
+      reads = ap (text_value clock) (sym (append-nil (clock_text c))) ∙ read_time clock c none i tt;
       stands = stands_at (ap (λ (n : ℕ). midnight (year 2000) 1 1 + n) (sym e)) (time_stands (time_of c none) (rw e (in_day c i)) (clock_as e (clock_parts c i)) false refl);
     }
 
@@ -239,10 +239,10 @@ format_8_zone : (clock : ℕ) (c : Clock) (z : Zone) → IsTime c → IsZone z �
 unfolding time_value
 format_8_zone clock c z i j =
     let e = time_ms_lem c i in
-    let (m, f) = time-counts (time_of c z) (rw e (in_day c i)) (clock_as e (clock_parts c i)) (is_utc z) in
+    let (m, f) = time_counts (time_of c z) (rw e (in_day c i)) (clock_as e (clock_parts c i)) (is_utc z) in
     record {
       moment = timed (time_of c z);
-      reads = read-time clock c z i j;
+      reads = read_time clock c z i j;
       ms_is = m ∙ ap (λ (n : ℕ). midnight (year 2000) 1 1 + n + no_zone * 60000 - held z * 60000) e ∙ zulu_is z (midnight (year 2000) 1 1 + clock_ms c) j;
       not_failed = f;
     }
@@ -294,14 +294,14 @@ format_12 clock n h = julian_leads n h
 
 format_12_text : (clock : ℕ) (g : Sign) (ds : List ℕ) (n : ℕ) → Writes ds n → is_minus g ≡ false → n ≤ 5373484 → Leads (time_value clock (bytes (whole_text g ds))) (instant (n * day_length))
 unfolding time_value of_int
-format_12_text clock g ds n W s h = leads_as (text-number ds n W clock g (omega arith) ∙ ap (λ (b : Bool). got (raw_number (round binary64 b n 1))) s) (julian_leads n h)
+format_12_text clock g ds n W s h = leads_as (text_number ds n W clock g (omega arith) ∙ ap (λ (b : Bool). got (raw_number (round binary64 b n 1))) s) (julian_leads n h)
 
 pub time_values : TimeValues
 time_values =
     record {
       format_1 = format_1;
-      formats_2_to_4 = format-2;
-      formats_5_to_7 = format-5;
+      formats_2_to_4 = format_2;
+      formats_5_to_7 = format_5;
       formats_8_to_10 = format_8;
       with_zone = format_8_zone;
       format_11 = format_11;

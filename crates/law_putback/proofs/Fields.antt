@@ -17,7 +17,7 @@ use Rattle.moment.proofs.Steps.{already, in_range_lem, count_cases, date_stands,
 use Rattle.reading.proofs.Stamps.{digits_of}
 use Rattle.timediff.specs.Promise.{Counts, put_back}
 use Rattle.law_putback.specs.Demand.{Instant, at}
-use Rattle.law_putback.proofs.Years.{lies-in-range, its-date, its-time}
+use Rattle.law_putback.proofs.Years.{lies_in_range, its_date, its_time}
 use Rattle.law_putback.proofs.Given.{fields}
 use Rattle.law_putback.proofs.Seconds.{Prints, as_read, as_filled}
 use Rattle.law_putback.proofs.Shown.{Shows}
@@ -67,40 +67,40 @@ module _ (a : Instant) where
   abbrev pub reached : Moment
   reached = counted (fields a) (at a)
 
-  pub shows-read : Shows (at a) reached
-  shows-read =
+  pub shows_read : Shows (at a) reached
+  shows_read =
       let F = a.full in
       let P = as_read a.stamp.second a.millis F.seconds F.millis a.stamp.fraction (digits_of a.stamp.fraction F.digits) F.few F.value in
-      let date = sym (its-date a) in
+      let date = sym (its_date a) in
       record {
         ms_is = refl;
         year_is = ap (λ (d : Ymd). d.year) date;
         month_is = ap (λ (d : Ymd). d.month) date;
         day_is = ap (λ (d : Ymd). d.day) date;
-        hour_is = rw (its-time a) (omega (arith, F.hours, F.minutes, F.seconds, F.millis));
-        minute_is = rw (its-time a) (omega (arith, F.hours, F.minutes, F.seconds, F.millis));
-        cut_is = P.cut_is ∙ rw (its-time a) (omega (arith, F.hours, F.minutes, F.seconds, F.millis));
-        decimals_are = P.decimals_are ∙ rw (its-time a) (omega (arith, F.hours, F.minutes, F.seconds, F.millis));
+        hour_is = rw (its_time a) (omega (arith, F.hours, F.minutes, F.seconds, F.millis));
+        minute_is = rw (its_time a) (omega (arith, F.hours, F.minutes, F.seconds, F.millis));
+        cut_is = P.cut_is ∙ rw (its_time a) (omega (arith, F.hours, F.minutes, F.seconds, F.millis));
+        decimals_are = P.decimals_are ∙ rw (its_time a) (omega (arith, F.hours, F.minutes, F.seconds, F.millis));
         plain = refl;
       }
 
-  pub shows-itself : Shows (at a) (fill reached)
-  shows-itself = shows_as (stands_filled reached refl refl) shows-read
+  pub shows_itself : Shows (at a) (fill reached)
+  shows_itself = shows_as (stands_filled reached refl refl) shows_read
 
   -- "With no modifier, date, time and datetime renew a day above 28 from the milliseconds": to the same date, since it exists
-  renewed-date : fill (set_dated reached false) ≡ on_date (set_dated reached false) (civil (at a))
+  renewed_date : fill (set_dated reached false) ≡ on_date (set_dated reached false) (civil (at a))
   unfolding fill
-  renewed-date =
-      let R = lies-in-range a in
+  renewed_date =
+      let R = lies_in_range a in
       ap fill_time (date_filled (set_dated reached false) refl refl (in_range_lem (at a) R.from R.to))
       ∙ time_stands (on_date (set_dated reached false) (civil (at a))) refl
 
-  pub shows-renewed : Shows (at a) (renewed [] reached)
-  shows-renewed = go (dec_le reached.day 28)
+  pub shows_renewed : Shows (at a) (renewed [] reached)
+  shows_renewed = go (dec_le reached.day 28)
     where
       go : Dec (reached.day ≤ 28) → Shows (at a) (renewed [] reached)
-      go (yes l) = shows_as (sym (renew_not reached l)) shows-itself
+      go (yes l) = shows_as (sym (renew_not reached l)) shows_itself
       go (no l) =
-          let S = shows-read in
-          shows_as (sym (renew reached (omega (arith, l))) ∙ renewed-date)
+          let S = shows_read in
+          shows_as (sym (renew reached (omega (arith, l))) ∙ renewed_date)
           (record { ms_is = refl; year_is = refl; month_is = refl; day_is = refl; hour_is = S.hour_is; minute_is = S.minute_is; cut_is = S.cut_is; decimals_are = S.decimals_are; plain = refl })

@@ -42,9 +42,9 @@ module _ {set : Setting} {s : List ℕ} {t : ℕ} {p : Moment} (r : Reads set s 
   by_itself = rw (r.reads, ranges)
 
   -- with one that reaches u
-  pub with-one : (m : List ℕ) {q : Moment} {u : ℕ} → modifiers (alone m) ≡ m ∷ [] → modifier set.offset 0 m p ≡ got q → Counts u q → InRange u → moment_of set (bytes s) (alone m) ≡ got q
+  pub with_one : (m : List ℕ) {q : Moment} {u : ℕ} → modifiers (alone m) ≡ m ∷ [] → modifier set.offset 0 m p ≡ got q → Counts u q → InRange u → moment_of set (bytes s) (alone m) ≡ got q
   unfolding moment_of modified
-  with-one m {q} e f c R = rw (r.reads, e, f) (ranges_as q (already q c.is_counted) c.not_failed c.ms_is R)
+  with_one m {q} e f c R = rw (r.reads, e, f) (ranges_as q (already q c.is_counted) c.not_failed c.ms_is R)
 
 -- a text of timediff's form, with four digits for the year, is the shift that it says
 pub shift_is : (offset : ℤ) (plus : Bool) (n rest : ℕ) (p : Moment) → n / 12 ≤ 9999 → rest < 31 * day_length → modifier offset 0 (shift_by plus n rest) p ≡ got (put_back plus n rest p)

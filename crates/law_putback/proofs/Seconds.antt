@@ -13,7 +13,7 @@ use lib.Pow.{pow_pos}
 use Rattle.rules.specs.Decimal.{value}
 use Rattle.rules.specs.Floats.{number, whole, decimals, ◌⊕◌, ◌⊘◌}
 use Rattle.rules.specs.Reading.{fraction_of}
-use Rattle.real.proofs.Fractions.{fraction-near}
+use Rattle.real.proofs.Fractions.{fraction_near}
 use Rattle.real.proofs.Millis.{Nearly, cut_at, to_units, nearly_sum, nearly_quotient, nearly_decimals}
 use Rattle.real.proofs.Near.{add_at, div_at, number_val}
 use Rattle.real.proofs.Run.{Digits}
@@ -40,8 +40,8 @@ module _ (L sL kL g : ℕ) (P : 0 < L) (a : kL ≤ 999 * L) (b : g * 1000 * 2 ^ 
   next : g < sL + L
   next = omega arith
 
-  in-64 : sL ≤ 59 * L → g < 2 ^ 64 * L
-  in-64 h = omega arith
+  in_64 : sL ≤ 59 * L → g < 2 ^ 64 * L
+  in_64 h = omega arith
 
 joined : (s k L : ℕ) → (1000 * s + k) * L ≡ 1000 * (s * L) + k * L
 joined s k L = add-mul (1000 * s) k L ∙ ap (λ (z : ℕ). z + k * L) (mul_assoc 1000 s L)
@@ -51,7 +51,7 @@ high x s k h i n =
     let L = 2 ^ 1074 in
     let P : 0 < L = pow_pos 1074 in
     let b = subst (λ (z : ℕ). n.units * 1000 * 2 ^ 14 ≤ z * 2 ^ 14 + 2 * 1000 * L) (joined s k L) n.above in
-    let c = cut_at x n.units L P (in-64 L (s * L) (k * L) n.units P (mul-le-mul_right L i) b (mul-le-mul_right L h)) n.is in
+    let c = cut_at x n.units L P (in_64 L (s * L) (k * L) n.units P (mul-le-mul_right L i) b (mul-le-mul_right L h)) n.is in
     le_trans (le_of_eq c) (le_of_suc-le-suc ((div-lt_iff_lt-mul P).1 (le_trans (next L (s * L) (k * L) n.units P (mul-le-mul_right L i) b) (le_of_eq (sym (suc-mul s L))))))
 
 -- ---- s seconds and k milliseconds, as they print
@@ -68,11 +68,11 @@ module _ (s k : ℕ) (h : s ≤ 59) (i : k ≤ 999) where
   as_read ds D n e =
       let L = 2 ^ 1074 in
       let P : 0 < L = pow_pos 1074 in
-      let f = fraction-near ds D n k i e in
-      prints (number s ⊕ fraction_of ds) (s * L + f.units) L P (le-more (s * L) f.units) (add_at binary64 (number s) (fraction_of ds) (s * L) f.units L P (to_units (number s) s (number_val s (le_trans h (lit≤ tt)))) f.is) (nearly_sum s k (fraction_of ds) h i f)
+      let f = fraction_near ds D n k i e in
+      prints (number s ⊕ fraction_of ds) (s * L + f.units) L P (le_more (s * L) f.units) (add_at binary64 (number s) (fraction_of ds) (s * L) f.units L P (to_units (number s) s (number_val s (le_trans h (lit≤ tt)))) f.is) (nearly_sum s k (fraction_of ds) h i f)
     where
-      le-more : (a b : ℕ) → a ≤ a + b
-      le-more a b = omega arith
+      le_more : (a b : ℕ) → a ≤ a + b
+      le_more a b = omega arith
 
   -- the milliseconds of a minute, as they are filled in
   pub as_filled : Prints s k (number (1000 * s + k) ⊘ number 1000)

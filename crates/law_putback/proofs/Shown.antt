@@ -157,28 +157,28 @@ module _ (p q : Moment) (s : Same p q) where
       go later true = h p q s
       go later false = later
 
-  letter-same : (b : ℕ) → letter b p ≡ letter b q
+  letter_same : (b : ℕ) → letter b p ≡ letter b q
   unfolding letter
-  letter-same b = row_same letters b all_alike
+  letter_same b = row_same letters b all_alike
 
-  format-same : (f : List ℕ) → formatted p f ≡ formatted q f
+  format_same : (f : List ℕ) → formatted p f ≡ formatted q f
   unfolding formatted
-  format-same [] = refl
-  format-same (b ∷ []) = refl
-  format-same (b ∷ c ∷ f) = rw (letter-same c, format-same f, format-same (c ∷ f))
+  format_same [] = refl
+  format_same (b ∷ []) = refl
+  format_same (b ∷ c ∷ f) = rw (letter_same c, format_same f, format_same (c ∷ f))
 
   -- ---- date and time
-  date-same : date_text p ≡ date_text q
+  date_same : date_text p ≡ date_text q
   unfolding date_text
-  date-same = rw (s.year, s.month, s.day)
+  date_same = rw (s.year, s.month, s.day)
 
-  time-same : p.subsec ≡ false → time_text p ≡ time_text q
+  time_same : p.subsec ≡ false → time_text p ≡ time_text q
   unfolding time_text
-  time-same h = rw (← s.subsec, h, s.hour, s.minute, s.cut)
+  time_same h = rw (← s.subsec, h, s.hour, s.minute, s.cut)
 
 -- ---- what follows for calls
 pub formats : (t : ℕ) (p q : Moment) → Shows t p → Shows t q → (f : List ℕ) → formatted p f ≡ formatted q f
-formats t p q P Q f = format-same p q (same t p q P Q) f
+formats t p q P Q f = format_same p q (same t p q P Q) f
 
 -- the record as it stands, for the numbers; and as it is renewed, for the texts
 pub outcomes : (t : ℕ) (m n : List ℕ) (p q : Moment) → p.ms ≡ q.ms → p.subsec ≡ q.subsec → Shows t (renewed m p) → Shows t (renewed n q) → (f : Function) → outcome_of f m p ≡ outcome_of f n q
@@ -189,8 +189,8 @@ outcomes t m n p q e i P Q = go
     s = same t (renewed m p) (renewed n q) P Q
 
     go : (f : Function) → outcome_of f m p ≡ outcome_of f n q
-    go Function.Date = rw (date-same (renewed m p) (renewed n q) s)
-    go Function.Time = rw (time-same (renewed m p) (renewed n q) s P.plain)
-    go Function.Datetime = rw (date-same (renewed m p) (renewed n q) s, time-same (renewed m p) (renewed n q) s P.plain)
+    go Function.Date = rw (date_same (renewed m p) (renewed n q) s)
+    go Function.Time = rw (time_same (renewed m p) (renewed n q) s P.plain)
+    go Function.Datetime = rw (date_same (renewed m p) (renewed n q) s, time_same (renewed m p) (renewed n q) s P.plain)
     go Function.Julianday = rw e
     go Function.Unixepoch = rw (i, e)

@@ -35,17 +35,17 @@ few [] = omega arith
 few (b ∷ l) = omega (arith, length_buffered l)
 
 module _ (s : List ℕ) (end : ℕ) {room new : List ℕ} {n : ℕ} (fits : length s ≤ length room) (l : Laid room 0 (buffered (fields_after (drop end s))) new n) where
-  is-length : n ≡ length (buffered (fields_after (drop end s)))
-  is-length = l.place ∙ zero-add _
+  is_length : n ≡ length (buffered (fields_after (drop end s)))
+  is_length = l.place ∙ zero-add _
 
-  pub laid-inside : n ≤ length new
-  laid-inside = rw (l.bytes, length-sets room 0 (buffered (fields_after (drop end s)))) (omega (arith, is-length, few (drop end s), length-drop end s))
+  pub laid_inside : n ≤ length new
+  laid_inside = rw (l.bytes, length-sets room 0 (buffered (fields_after (drop end s)))) (omega (arith, is_length, few (drop end s), length-drop end s))
 
-  pub laid-are : take n new ≡ buffered (fields_after (drop end s))
-  laid-are =
+  pub laid_are : take n new ≡ buffered (fields_after (drop end s))
+  laid_are =
       let m = buffered (fields_after (drop end s)) in
       let e : sets room 0 m ≡ m ++ drop (0 + length m) room = sets-eq m room 0 (omega (arith, few (drop end s), length-drop end s)) in
-      rw (l.bytes, e, is-length) (take_at m (drop (0 + length m) room) (length m) refl)
+      rw (l.bytes, e, is_length) (take_at m (drop (0 + length m) room) (length m) refl)
 
 -- ---- a call, or none: what comes of it, and what is laid out
 pub record Comes (set : Setting) (c : Read Call) (old new room laid : List ℕ) (r : Answer) : Type 0 where
@@ -61,13 +61,13 @@ pub comes_as : (set : Setting) (old room : List ℕ) {new laid : List ℕ} {r : 
 comes_as set old room e (g, l) = rw e (g, l)
 
 module _ (set : Setting) {old new : List ℕ} {r : Answer} {fs : List (List ℕ)} (v m : List ℕ) (ms : List (List ℕ)) (k : m ≡ buffered ms) {room laid : List ℕ} {n : ℕ} (l : Laid room 0 (buffered ms) laid n) where
-  pub general-comes : (f : Function) → fs ≡ v ∷ ms → Gives (answer set (call f (bytes v) m)) old new r → Comes set (general_call fs f) old new room laid r
+  pub general_comes : (f : Function) → fs ≡ v ∷ ms → Gives (answer set (call f (bytes v) m)) old new r → Comes set (general_call fs f) old new room laid r
   unfolding outcome
-  general-comes f e g = rw e (record { gives = rw k at g; lays = l.bytes })
+  general_comes f e g = rw e (record { gives = rw k at g; lays = l.bytes })
 
-  pub strftime-comes : (f : List ℕ) → fs ≡ f ∷ v ∷ ms → Gives (answer set (strftime f (bytes v) m)) old new r → Comes set (strftime_call fs) old new room laid r
+  pub strftime_comes : (f : List ℕ) → fs ≡ f ∷ v ∷ ms → Gives (answer set (strftime f (bytes v) m)) old new r → Comes set (strftime_call fs) old new room laid r
   unfolding outcome
-  strftime-comes f e g = rw e (record { gives = rw k at g; lays = l.bytes })
+  strftime_comes f e g = rw e (record { gives = rw k at g; lays = l.bytes })
 
 pub timediff_gives : (set : Setting) {old new : List ℕ} {r : Answer} {fs : List (List ℕ)} (a b : List ℕ) → fs ≡ a ∷ b ∷ [] → Gives (answer set (timediff (bytes a) (bytes b))) old new r → Gives (outcome set (timediff_call fs)) old new r
 unfolding outcome

@@ -211,50 +211,50 @@ module _ (p : Moment) (h : Few p) where
   abbrev Units : Float → (Float → Moment → Read Moment) → Type 0
   Units n f = Reads Few (f n p)
 
-  few-auto : Few (rule.auto p)
+  few_auto : Few (rule.auto p)
   unfolding rule.auto
-  few-auto = either (λ (q : Moment). Few q) (not p.raw || p.counted) _ _ h (either (λ (q : Moment). Few q) (rule.is_auto p.second) _ p h h)
+  few_auto = either (λ (q : Moment). Few q) (not p.raw || p.counted) _ _ h (either (λ (q : Moment). Few q) (rule.is_auto p.second) _ p h h)
 
-  few-unix : Reads Few (rule.unix p)
+  few_unix : Reads Few (rule.unix p)
   unfolding rule.unix
-  few-unix = provided_reads (p.raw && rule.is_unix (rule.from_epoch p.second)) (rule.at_ms p (rule.from_epoch p.second)) h
+  few_unix = provided_reads (p.raw && rule.is_unix (rule.from_epoch p.second)) (rule.at_ms p (rule.from_epoch p.second)) h
 
-  few-ceiling : Few (rule.ceiling p)
+  few_ceiling : Few (rule.ceiling p)
   unfolding rule.ceiling
-  few-ceiling = few_count p h
+  few_ceiling = few_count p h
 
-  few-floor : Few (rule.floor p)
+  few_floor : Few (rule.floor p)
   unfolding rule.floor
-  few-floor = few_count p h
+  few_floor = few_count p h
 
-  few-local : (offset : ℤ) → Few (rule.localtime offset p)
+  few_local : (offset : ℤ) → Few (rule.localtime offset p)
   unfolding rule.localtime
-  few-local offset = either (λ (q : Moment). Few q) p.local p _ h (few_count p h)
+  few_local offset = either (λ (q : Moment). Few q) p.local p _ h (few_count p h)
 
-  few-utc : (offset : ℤ) → Few (rule.utc offset p)
+  few_utc : (offset : ℤ) → Few (rule.utc offset p)
   unfolding rule.utc
-  few-utc offset = either (λ (q : Moment). Few q) p.utc p _ h (few_count p h)
+  few_utc offset = either (λ (q : Moment). Few q) p.utc p _ h (few_count p h)
 
   few_words : (offset : ℤ) (i : ℕ) → Rows Steps (rule.words offset i)
   few_words offset i =
-      first_reads i (got (rule.auto p)) few-auto
+      first_reads i (got (rule.auto p)) few_auto
       then first_reads i (rule.julian p) (provided_reads (p.counted && p.raw) (set_raw p false) h)
-      then first_reads i (rule.unix p) few-unix
-      then few-ceiling
-      then few-floor
-      then few-local offset
-      then few-utc offset
+      then first_reads i (rule.unix p) few_unix
+      then few_ceiling
+      then few_floor
+      then few_local offset
+      then few_utc offset
       then h
       then h
       then end
 
-  few-weekday : (s : List ℕ) → Reads Few (rule.weekday s p)
+  few_weekday : (s : List ℕ) → Reads Few (rule.weekday s p)
   unfolding rule.weekday rule.to_weekday
-  few-weekday s = after_any Few (rule.or_null (decimal (trim rule.wide_space s))) _ (λ x. provided_reads (within (number 0) x (number 7) && eq (number (whole x)) x) (rule.to_weekday (whole x) p) (few_anew p h))
+  few_weekday s = after_any Few (rule.or_null (decimal (trim rule.wide_space s))) _ (λ x. provided_reads (within (number 0) x (number 7) && eq (number (whole x)) x) (rule.to_weekday (whole x) p) (few_anew p h))
 
-  few-start : (s : List ℕ) → Reads Few (rule.start_of s p)
+  few_start : (s : List ℕ) → Reads Few (rule.start_of s p)
   unfolding rule.start_of
-  few-start s =
+  few_start s =
       then_reads Starts Few (rule.or_null (beside rule.starts s)) _ (or_reads Starts (beside rule.starts s) _ (beside_reads Starts rule.starts s rows) tt)
       (λ f g. provided_reads (p.counted || (p.dated || p.timed)) (f (rule.day_start p)) (g (rule.day_start p) day))
     where
@@ -270,9 +270,9 @@ module _ (p : Moment) (h : Few p) where
       day : Few (rule.day_start p)
       day = let d = few_date p h in record { months = d.months; days = d.days; hours = omega arith; minutes = omega arith }
 
-  few-date-step : (minus : Bool) (s : List ℕ) → Reads Few (rule.date_step minus s p)
+  few_date_step : (minus : Bool) (s : List ℕ) → Reads Few (rule.date_step minus s p)
   unfolding rule.date_step rule.by_date
-  few-date-step minus s =
+  few_date_step minus s =
       after_any Few (digits 4 0 9999 s) _
       (λ y. after_any Few (byte "-" y.1) _
       (λ s. after_any Few (digits 2 0 11 s) _
@@ -283,50 +283,50 @@ module _ (p : Moment) (h : Few p) where
       let q = shift (set_counted (fill p) false) (rule.signed minus (y.0 * 12 + m.0)) 1 in
       few_count (past_end q) (few_end q (few_shift (set_counted (fill p) false) (rule.signed minus (y.0 * 12 + m.0)) 1 (few_fill p h)))))))))
 
-  few-time-step : (minus : Bool) (s : List ℕ) → Reads Few (rule.time_step minus s p)
+  few_time_step : (minus : Bool) (s : List ℕ) → Reads Few (rule.time_step minus s p)
   unfolding rule.time_step
-  few-time-step minus s = after_any Few (time s) _ (λ t. few_count p h)
+  few_time_step minus s = after_any Few (time s) _ (λ t. few_count p h)
 
-  few-length : (limit unit n : Float) → Reads Few (rule.by_length limit unit n p)
+  few_length : (limit unit n : Float) → Reads Few (rule.by_length limit unit n p)
   unfolding rule.by_length
-  few-length limit unit n = provided_reads (below n limit) (set_over (clear (moved (count_ms p) (rule.unit_ms unit n) 1)) 0) (few_count p h)
+  few_length limit unit n = provided_reads (below n limit) (set_over (clear (moved (count_ms p) (rule.unit_ms unit n) 1)) 0) (few_count p h)
 
-  few-months : (limit : Float) (k : ℕ) (days n : Float) → Reads Few (rule.by_months limit k days n p)
+  few_months : (limit : Float) (k : ℕ) (days n : Float) → Reads Few (rule.by_months limit k days n p)
   unfolding rule.by_months
-  few-months limit k days n =
+  few_months limit k days n =
       let q = shift (fill p) (cut n) k in
       let r = set_counted (past_end q) false in
       provided_reads (below n limit) (clear (moved (count_ms r) (rule.fraction_ms days n) 1)) (few_count r (few_end q (few_shift (fill p) (cut n) k (few_fill p h))))
 
-  few-unit-step : (s : List ℕ) → Reads Few (rule.unit_step s p)
+  few_unit_step : (s : List ℕ) → Reads Few (rule.unit_step s p)
   unfolding rule.unit_step
-  few-unit-step s =
+  few_unit_step s =
       let one = front (λ b. not (rule.wide_space b)) s in
       let two = front (λ b. not (rule.wide_space b)) (skip rule.wide_space (drop (length one) s)) in
       after_any Few (decimal one) _ (λ n. then_reads (Units n) Few (beside rule.units two) (λ f. f n p) (beside_reads (Units n) rule.units two (rows n)) (λ f g. g))
     where
       rows : (n : Float) → Rows (Units n) rule.units
       rows n =
-          few-length _ _ n then few-length _ _ n then few-length _ _ n then few-length _ _ n then few-length _ _ n then few-length _ _ n then few-length _ _ n then few-length _ _ n
-          then few-months _ _ _ n then few-months _ _ _ n then few-months _ _ _ n then few-months _ _ _ n then end
+          few_length _ _ n then few_length _ _ n then few_length _ _ n then few_length _ _ n then few_length _ _ n then few_length _ _ n then few_length _ _ n then few_length _ _ n
+          then few_months _ _ _ n then few_months _ _ _ n then few_months _ _ _ n then few_months _ _ _ n then end
 
-  few-arithmetic : (s : List ℕ) → Reads Few (rule.arithmetic s p)
+  few_arithmetic : (s : List ℕ) → Reads Few (rule.arithmetic s p)
   unfolding rule.arithmetic
-  few-arithmetic s = or_reads Few (rule.date_step (sign s).0 (sign s).1 p) _ (few-date-step (sign s).0 (sign s).1) (or_reads Few (rule.time_step (sign s).0 (sign s).1 p) _ (few-time-step (sign s).0 (sign s).1) (few-unit-step s))
+  few_arithmetic s = or_reads Few (rule.date_step (sign s).0 (sign s).1 p) _ (few_date_step (sign s).0 (sign s).1) (or_reads Few (rule.time_step (sign s).0 (sign s).1 p) _ (few_time_step (sign s).0 (sign s).1) (few_unit_step s))
 
-  few-modifier : (offset : ℤ) (i : ℕ) (s : List ℕ) → Reads Few (rule.modifier offset i s p)
+  few_modifier : (offset : ℤ) (i : ℕ) (s : List ℕ) → Reads Few (rule.modifier offset i s p)
   unfolding rule.modifier
-  few-modifier offset i s =
+  few_modifier offset i s =
       or_reads Few (◌>>=◌ (beside (rule.words offset i) s) (λ f. f p)) _ (then_reads Steps Few (beside (rule.words offset i) s) (λ f. f p) (beside_reads Steps (rule.words offset i) s (few_words offset i)) (λ f g. g))
-      (or_reads Few (◌>>=◌ (past (ascii "weekday ") s) (λ s. rule.weekday s p)) _ (after_any Few (past (ascii "weekday ") s) (λ s. rule.weekday s p) few-weekday)
-      (or_reads Few (◌>>=◌ (past (ascii "start of ") s) (λ s. rule.start_of s p)) _ (after_any Few (past (ascii "start of ") s) (λ s. rule.start_of s p) few-start)
-      (or_reads Few (◌>>=◌ (only_if (rule.counts s) s) (λ s. rule.arithmetic (trim rule.wide_space s) p)) _ (after_any Few (only_if (rule.counts s) s) (λ s. rule.arithmetic (trim rule.wide_space s) p) (λ s. few-arithmetic (trim rule.wide_space s))) tt)))
+      (or_reads Few (◌>>=◌ (past (ascii "weekday ") s) (λ s. rule.weekday s p)) _ (after_any Few (past (ascii "weekday ") s) (λ s. rule.weekday s p) few_weekday)
+      (or_reads Few (◌>>=◌ (past (ascii "start of ") s) (λ s. rule.start_of s p)) _ (after_any Few (past (ascii "start of ") s) (λ s. rule.start_of s p) few_start)
+      (or_reads Few (◌>>=◌ (only_if (rule.counts s) s) (λ s. rule.arithmetic (trim rule.wide_space s) p)) _ (after_any Few (only_if (rule.counts s) s) (λ s. rule.arithmetic (trim rule.wide_space s) p) (λ s. few_arithmetic (trim rule.wide_space s))) tt)))
 
 -- ---- all of them, and the final range
 few_modified : (offset : ℤ) (i : ℕ) (ms : List (List ℕ)) (p : Moment) → Few p → Reads Few (rule.modified offset i ms p)
 unfolding rule.modified
 few_modified offset i [] p h = h
-few_modified offset i (m ∷ ms) p h = then_reads Few Few (rule.modifier offset i m p) _ (few-modifier p h offset i m) (λ q k. few_modified offset (suc i) ms q k)
+few_modified offset i (m ∷ ms) p h = then_reads Few Few (rule.modifier offset i m p) _ (few_modifier p h offset i m) (λ q k. few_modified offset (suc i) ms q k)
 
 few_ranged : (p : Moment) → Few p → Reads Few (ranged p)
 unfolding ranged

@@ -26,9 +26,9 @@ same_length (c ∷ w) [] h = refl
 same_length (c ∷ w) (b ∷ s) h = rw (same_length w s (λ e. h (ap suc e))) (and_false (eqb c b))
 
 module _ (w s : List ℕ) (i : ℕ) (h : i < length w) (k : i < length s) where
-  pub same-on : get_or w i 0 ≡ get_or s i 0 → same (drop i w) (drop i s) ≡ same (drop (i + 1) w) (drop (i + 1) s)
+  pub same_on : get_or w i 0 ≡ get_or s i 0 → same (drop i w) (drop i s) ≡ same (drop (i + 1) w) (drop (i + 1) s)
   unfolding same
-  same-on e = rw (add-one, drop-cons w i 0 h, drop-cons s i 0 k, eq-eqb (get_or w i 0) (get_or s i 0) e)
+  same_on e = rw (add-one, drop-cons w i 0 h, drop-cons s i 0 k, eq-eqb (get_or w i 0) (get_or s i 0) e)
 
   pub same_stop : get_or w i 0 ≢ get_or s i 0 → same (drop i w) (drop i s) ≡ false
   unfolding same

@@ -16,7 +16,7 @@ use Rattle.rules.specs.Program.{digits_all, signed_all, two_fields, first_line}
 use Rattle.rules.specs.declared.Setting.{Setting}
 use Rattle.text.specs.Places.{part, stands, Passed}
 use Rattle.text.proofs.Digits.{run_on, run_stop, run_past}
-use Rattle.text.proofs.Reading.{bind-other, ended-other, stands-cons, byte-other}
+use Rattle.text.proofs.Reading.{bind_other, ended_other, stands_cons, byte_other}
 use Rattle.lines.specs.Fields.{in_field, fields_after}
 use Rattle.lines.specs.First.{up_to, AtMost, near}
 use Rattle.lines.specs.declared.clock.Number.{Number}
@@ -41,15 +41,15 @@ number_start most s h = go (is_digit (get_or s 0 0)) refl
   where
     go : (t : Bool) → is_digit (get_or s 0 0) ≡ t → up_to most s ≡ on_from most 0 s
     go true e = rw (run_on s 0 h e)
-    go false e = rw (run_stop s 0 h e, ended-other {A = ℕ} s 0 (value 0 []) h)
+    go false e = rw (run_stop s 0 h e, ended_other {A = ℕ} s 0 (value 0 []) h)
 
 module _ (most v : ℕ) (s : List ℕ) (i : ℕ) (h : i < length s) where
-  pub number-on : (d : ℕ) → is_digit (get_or s i 0) ≡ true → d ≡ get_or s i 0 - 48 → on_from most v (drop i s) ≡ on_from most (v * 10 + d) (drop (i + 1) s)
+  pub number_on : (d : ℕ) → is_digit (get_or s i 0) ≡ true → d ≡ get_or s i 0 - 48 → on_from most v (drop i s) ≡ on_from most (v * 10 + d) (drop (i + 1) s)
   unfolding value
-  number-on d e k = rw (run_on s i h e, k)
+  number_on d e k = rw (run_on s i h e, k)
 
-  pub number-stop : is_digit (get_or s i 0) ≡ false → on_from most v (drop i s) ≡ other
-  number-stop e = rw (run_stop s i h e) (bind-other (limit most) (ended-other s i (value v []) h))
+  pub number_stop : is_digit (get_or s i 0) ≡ false → on_from most v (drop i s) ≡ other
+  number_stop e = rw (run_stop s i h e) (bind_other (limit most) (ended_other s i (value v []) h))
 
 value_more : (v : ℕ) (ds : List ℕ) → v ≤ value v ds
 unfolding value
@@ -99,7 +99,7 @@ minus_none l = refl
 
 pub near_west : (s : List ℕ) → stands 45 s 0 ≡ true → near s ≡ ◌>>=◌ (up_to 86399 (drop 1 s)) (λ n. got (neg_ℤ (pos n)))
 unfolding signed_all
-near_west s h = rw (stands-cons 45 s 0 h, minus_none (drop 1 s)) (go (digits_all (drop 1 s)))
+near_west s h = rw (stands_cons 45 s 0 h, minus_none (drop 1 s)) (go (digits_all (drop 1 s)))
   where
     go : (r : Read ℕ) → ◌>>=◌ (◌>>=◌ r west) close ≡ ◌>>=◌ (◌>>=◌ r (limit 86399)) west
     go (got n) = rw (far_west n, over_is 86399 n) (pick (leb n 86399))
@@ -112,7 +112,7 @@ near_west s h = rw (stands-cons 45 s 0 h, minus_none (drop 1 s)) (go (digits_all
 
 pub near_east : (s : List ℕ) → stands 45 s 0 ≡ false → near s ≡ ◌>>=◌ (up_to 86399 s) (λ n. got (pos n))
 unfolding signed_all
-near_east s h = rw (byte-other "-" s 0 h) (go (digits_all s))
+near_east s h = rw (byte_other "-" s 0 h) (go (digits_all s))
   where
     go : (r : Read ℕ) → ◌>>=◌ (◌>>=◌ r east or other) close ≡ ◌>>=◌ (◌>>=◌ r (limit 86399)) east
     go (got n) = rw (over_is 86399 n) (pick (leb n 86399))
@@ -201,15 +201,15 @@ module _ (s : List ℕ) (tab : ℕ) (few : length s ≤ 8192) (first : Passed in
   first_one h = fields ∙ rw (after_end s tab h)
 
   module _ (more : tab < length s) (end : ℕ) (second : Passed in_field s (tab + 1) end) where
-    fields-two : first_line s ≡ two_fields (part s 0 tab ∷ part s (tab + 1) end ∷ fields_after (drop end s))
-    fields-two = fields ∙ rw (after_tab s tab more, field_at s (tab + 1) end second)
+    fields_two : first_line s ≡ two_fields (part s 0 tab ∷ part s (tab + 1) end ∷ fields_after (drop end s))
+    fields_two = fields ∙ rw (after_tab s tab more, field_at s (tab + 1) end second)
 
     -- three
     pub first_three : end < length s → first_line s ≡ other
-    first_three h = fields-two ∙ rw (after_tab s end h, parts_split (drop (end + 1) s))
+    first_three h = fields_two ∙ rw (after_tab s end h, parts_split (drop (end + 1) s))
 
     -- two
     pub first_two : length s ≤ end → first_line s ≡ two_fields (take tab s ∷ part s (tab + 1) (length s) ∷ [])
     first_two h =
         let e : end ≡ length s = omega (arith, second.inside) in
-        fields-two ∙ rw (after_end s end h, e, sub-zero)
+        fields_two ∙ rw (after_end s end h, e, sub-zero)

@@ -32,9 +32,9 @@ use Rattle.lines.specs.Shown.{Sound}
 
 -- ---- what holds of each refusal and of what is read, where nothing is too long, holds of the answer
 module _ (P : Outcome → Type 0) (none : (x : Refusal) → P (refused x)) where
-  pub answer-holds : (set : Setting) (c : Call) → (bad_shape c ≡ false → P (settle (reading set c))) → P (answer set c)
+  pub answer_holds : (set : Setting) (c : Call) → (bad_shape c ≡ false → P (settle (reading set c))) → P (answer set c)
   unfolding answer
-  answer-holds set c h = go (bad_shape c) (bad_bytes c) (bad_setting set) h
+  answer_holds set c h = go (bad_shape c) (bad_bytes c) (bad_setting set) h
     where
       go : (s b t : Bool) → (s ≡ false → P (settle (reading set c))) → P (settle (if s then refuse Refusal.Shape else (if b then refuse Refusal.Bytes else (if t then refuse Refusal.Setting else reading set c))))
       go true b t h = none Refusal.Shape
@@ -43,10 +43,10 @@ module _ (P : Outcome → Type 0) (none : (x : Refusal) → P (refused x)) where
       go false false false h = h refl
 
   -- of what is read first, and then k
-  pub then-holds : {A : Type 0} (r : Read A) (k : A → Read Outcome) → ((a : A) → r ≡ got a → P (settle (k a))) → P (settle (◌>>=◌ r k))
-  then-holds (got a) k h = h a refl
-  then-holds other k h = none Refusal.Null
-  then-holds (refuse x) k h = none x
+  pub then_holds : {A : Type 0} (r : Read A) (k : A → Read Outcome) → ((a : A) → r ≡ got a → P (settle (k a))) → P (settle (◌>>=◌ r k))
+  then_holds (got a) k h = h a refl
+  then_holds other k h = none Refusal.Null
+  then_holds (refuse x) k h = none x
 
 -- ---- a number, or a refusal
 abbrev Textless : Outcome → Type 0
@@ -64,13 +64,13 @@ textless_gives (refused x) old t e = record { is = e; bytes = refl }
 
 module _ (set : Setting) (v : Value) (m : List ℕ) (old : List ℕ) {r : Answer} where
   -- as a function that lends no buffer says it
-  pub julianday-gives : r ≡ answered (answer set (call Function.Julianday v m)) 0 → Gives (answer set (call Function.Julianday v m)) old old r
+  pub julianday_gives : r ≡ answered (answer set (call Function.Julianday v m)) 0 → Gives (answer set (call Function.Julianday v m)) old old r
   unfolding reading outcome_of
-  julianday-gives e = textless_gives _ old (answer-holds Textless (λ x. tt) set (call Function.Julianday v m) (λ _. then-holds Textless (λ x. tt) (moment_of set v m) (λ p. got (outcome_of Function.Julianday m p)) (λ p h. tt))) e
+  julianday_gives e = textless_gives _ old (answer_holds Textless (λ x. tt) set (call Function.Julianday v m) (λ _. then_holds Textless (λ x. tt) (moment_of set v m) (λ p. got (outcome_of Function.Julianday m p)) (λ p h. tt))) e
 
-  pub unixepoch-gives : r ≡ answered (answer set (call Function.Unixepoch v m)) 0 → Gives (answer set (call Function.Unixepoch v m)) old old r
+  pub unixepoch_gives : r ≡ answered (answer set (call Function.Unixepoch v m)) 0 → Gives (answer set (call Function.Unixepoch v m)) old old r
   unfolding reading outcome_of
-  unixepoch-gives e = textless_gives _ old (answer-holds Textless (λ x. tt) set (call Function.Unixepoch v m) (λ _. then-holds Textless (λ x. tt) (moment_of set v m) (λ p. got (outcome_of Function.Unixepoch m p)) (λ p h. pick p.subsec p))) e
+  unixepoch_gives e = textless_gives _ old (answer_holds Textless (λ x. tt) set (call Function.Unixepoch v m) (λ _. then_holds Textless (λ x. tt) (moment_of set v m) (λ p. got (outcome_of Function.Unixepoch m p)) (λ p h. pick p.subsec p))) e
     where
       pick : (t : Bool) (p : Moment) → Textless (if t then real (unix_real p.ms) else integer (unix_seconds p.ms))
       pick true p = tt
@@ -133,15 +133,15 @@ fine_outcome Function.Unixepoch m p h = pick p.subsec
 
 fine_reading : (set : Setting) (c : Call) → Fine (settle (reading set c))
 unfolding reading
-fine_reading set (call f v m) = then-holds Fine (λ x. tt) (moment_of set v m) (λ p. got (outcome_of f m p)) (λ p e. fine_outcome f m p (in_range_lem set v m p e))
+fine_reading set (call f v m) = then_holds Fine (λ x. tt) (moment_of set v m) (λ p. got (outcome_of f m p)) (λ p e. fine_outcome f m p (in_range_lem set v m p e))
 fine_reading set (strftime f v m) =
-    then-holds Fine (λ x. tt) (moment_of set v m) (λ p. ◌>>=◌ (formatted (fill p) f) (λ s. got (text s)))
-    (λ p e. then-holds Fine (λ x. tt) (formatted (fill p) f) (λ s. got (text s)) (λ s h. tt))
+    then_holds Fine (λ x. tt) (moment_of set v m) (λ p. ◌>>=◌ (formatted (fill p) f) (λ s. got (text s)))
+    (λ p e. then_holds Fine (λ x. tt) (formatted (fill p) f) (λ s. got (text s)) (λ s h. tt))
 fine_reading set (timediff a b) =
-    then-holds Fine (λ x. tt) (time_value set.clock (present a)) _
-    (λ p e. then-holds Fine (λ x. tt) (time_value set.clock (present b)) _
-    (λ q f. then-holds Fine (λ x. tt) (ranged p) _
-    (λ p g. then-holds Fine (λ x. tt) (ranged q) _ (λ q h. tt))))
+    then_holds Fine (λ x. tt) (time_value set.clock (present a)) _
+    (λ p e. then_holds Fine (λ x. tt) (time_value set.clock (present b)) _
+    (λ q f. then_holds Fine (λ x. tt) (ranged p) _
+    (λ p g. then_holds Fine (λ x. tt) (ranged q) _ (λ q h. tt))))
 
 fine_sound : (o : Outcome) (room : ℕ) → Fine o → Sound (answered o room)
 unfolding answered
@@ -159,6 +159,6 @@ unfolding outcome
 sound set r room e = rw e (fine_sound (outcome set r) room (go r))
   where
     go : (r : Read Call) → Fine (outcome set r)
-    go (got c) = answer-holds Fine (λ x. tt) set c (λ _. fine_reading set c)
+    go (got c) = answer_holds Fine (λ x. tt) set c (λ _. fine_reading set c)
     go other = tt
     go (refuse x) = tt

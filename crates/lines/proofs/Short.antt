@@ -33,7 +33,7 @@ use Rattle.moment.proofs.Branches.{never, either}
 use Rattle.writing.specs.Texts.{date_of, clock_of, whole_time, half}
 use Rattle.writing.proofs.Lengths.{length_date, length_clock, length_half}
 use Rattle.lines.proofs.Few.{Reads, then_reads, Rows, end, ◌then◌, Few, few_fill, few_moment}
-use Rattle.lines.proofs.Outcomes.{answer-holds, then-holds}
+use Rattle.lines.proofs.Outcomes.{answer_holds, then_holds}
 
 -- ---- numbers
 width_most : (k v : ℕ) → width k v ≤ suc k
@@ -125,23 +125,23 @@ percent = omega arith
 
 -- those that join fields: F, R and T
 module _ (p : Moment) (h : Few p) where
-  date-few : length (date_of 3 p.year p.month p.day) ≤ 32
-  date-few = omega (arith, length_date 3 p.year p.month p.day h.months h.days, year_most 3 p.year (omega arith))
+  date_few : length (date_of 3 p.year p.month p.day) ≤ 32
+  date_few = omega (arith, length_date 3 p.year p.month p.day h.months h.days, year_most 3 p.year (omega arith))
 
-  clock-few : length (clock_of p.hour p.minute) ≤ 32
-  clock-few = omega (arith, length_clock p.hour p.minute h.hours h.minutes)
+  clock_few : length (clock_of p.hour p.minute) ≤ 32
+  clock_few = omega (arith, length_clock p.hour p.minute h.hours h.minutes)
 
-  time-few : length (whole_time p.hour p.minute p.second) ≤ 32
-  time-few =
+  time_few : length (whole_time p.hour p.minute p.second) ≤ 32
+  time_few =
       let c = clock_of p.hour p.minute in
       omega (arith, length_clock p.hour p.minute h.hours h.minutes, length-append (c ++ (58 ∷ [])) (wide 2 (whole p.second)), length-append c (58 ∷ []), wide_most 2 (whole p.second) (omega arith))
 
-  rows-most : Rows (Writes p) letters
+  rows_most : Rows (Writes p) letters
   unfolding letters
-  rows-most =
+  rows_most =
       number 2 p.day tt
       then spaced_most p.day
-      then date-few
+      then date_few
       then second p.second
       then short_most (thursday p.ms).year
       then year_few (thursday p.ms).year
@@ -155,10 +155,10 @@ module _ (p : Moment) (h : Few p) where
       then number 2 p.minute tt
       then half_few 65 80 77 p.hour
       then half_few 97 112 109 p.hour
-      then clock-few
+      then clock_few
       then unix_most p
       then number 2 (whole p.second) tt
-      then time-few
+      then time_few
       then number 1 (since_monday p.ms + 1) tt
       then number 2 (week p (since_sunday p.ms)) tt
       then number 2 (iso_week p.ms) tt
@@ -170,7 +170,7 @@ module _ (p : Moment) (h : Few p) where
 
 letter_most : (p : Moment) → Few p → (b : ℕ) → UpTo 32 (letter b p)
 unfolding letter
-letter_most p h b = then_reads (Writes p) (λ (s : List ℕ). length s ≤ 32) (writer letters b) (λ w. w p) (writer_most p letters b (rows-most p h)) (λ w k. k)
+letter_most p h b = then_reads (Writes p) (λ (s : List ℕ). length s ≤ 32) (writer letters b) (λ w. w p) (writer_most p letters b (rows_most p h)) (λ w k. k)
 
 -- ---- a format: 16 bytes for each of its own, at the most
 before_most : (m n k : ℕ) (a b : Read (List ℕ)) → m + n ≤ k → UpTo m a → UpTo n b → UpTo k (before a b)
@@ -248,22 +248,22 @@ short_outcome Function.Unixepoch m p = either Short p.subsec (real (unix_real p.
 
 short_reading : (set : Setting) (c : Call) → bad_shape c ≡ false → Short (settle (reading set c))
 unfolding reading shown
-short_reading set (call f v m) h = then-holds Short short_refused (moment_of set v m) (λ p. got (outcome_of f m p)) (λ p e. short_outcome f m p)
+short_reading set (call f v m) h = then_holds Short short_refused (moment_of set v m) (λ p. got (outcome_of f m p)) (λ p e. short_outcome f m p)
 short_reading set (strftime f v m) h =
-    then-holds Short short_refused (moment_of set v m) (λ p. ◌>>=◌ (formatted (fill p) f) (λ s. got (text s)))
-    (λ p e. then-holds Short short_refused (formatted (fill p) f) (λ s. got (text s))
+    then_holds Short short_refused (moment_of set v m) (λ p. ◌>>=◌ (formatted (fill p) f) (λ s. got (text s)))
+    (λ p e. then_holds Short short_refused (formatted (fill p) f) (λ s. got (text s))
     (λ s g.
     let few : Few p = rw e at (few_moment set v m) in
     let most : length s ≤ 16 * length f = rw g at (format_most (fill p) (few_fill p few) f) in
     omega (arith, most, format_length f v m h)))
 short_reading set (timediff a b) h =
-    then-holds Short short_refused (time_value set.clock (present a)) _
-    (λ p e. then-holds Short short_refused (time_value set.clock (present b)) _
-    (λ q f. then-holds Short short_refused (ranged p) _
-    (λ p g. then-holds Short short_refused (ranged q) _ (λ q h. omega (arith, difference_most p.ms q.ms)))))
+    then_holds Short short_refused (time_value set.clock (present a)) _
+    (λ p e. then_holds Short short_refused (time_value set.clock (present b)) _
+    (λ q f. then_holds Short short_refused (ranged p) _
+    (λ p g. then_holds Short short_refused (ranged q) _ (λ q h. omega (arith, difference_most p.ms q.ms)))))
 
 -- "its buffer [is] 16,384 bytes": each answer finds room
 pub line_short : (set : Setting) (s : List ℕ) → length (line set s) ≤ 16384
 unfolding line
 line_short set s =
-    then-holds Short short_refused (line_call s or refuse Refusal.Shape) (λ c. got (answer set c)) (λ c e. answer-holds Short short_refused set c (short_reading set c))
+    then_holds Short short_refused (line_call s or refuse Refusal.Shape) (λ c. got (answer set c)) (λ c e. answer_holds Short short_refused set c (short_reading set c))

@@ -57,13 +57,13 @@ later (suc i) r h = refl
 
 -- ---- a day of the week
 module _ (s : List ℕ) (p : rule.Moment) where
-  pub weekday-none : decimal (trim wide_space s) ≡ other → weekday s p ≡ refuse Refusal.Null
+  pub weekday_none : decimal (trim wide_space s) ≡ other → weekday s p ≡ refuse Refusal.Null
   unfolding weekday
-  weekday-none e = rw e
+  weekday_none e = rw e
 
-  pub weekday-over : (x : Refusal) → decimal (trim wide_space s) ≡ refuse x → weekday s p ≡ refuse x
+  pub weekday_over : (x : Refusal) → decimal (trim wide_space s) ≡ refuse x → weekday s p ≡ refuse x
   unfolding weekday
-  weekday-over x e = rw e
+  weekday_over x e = rw e
 
   pub weekday_is : (x : Float) → decimal (trim wide_space s) ≡ got x → weekday s p ≡ provided (within (number 0) x (number 7) && eq (number (whole x)) x) (to_weekday (whole x) p)
   unfolding weekday

@@ -99,8 +99,8 @@ final Kind.Unknown offset i s p = λ q. refl
 
 module _ (offset : ℤ) (i : ℕ) (s : List ℕ) (p : Moment) where
   -- the table's steps are those of its kinds
-  words-by : ◌>>=◌ (beside (words offset i) s) (λ f. f p) ≡ ◌>>=◌ (beside kinds s) (λ k. step_of k offset i s p)
-  words-by = ap (λ (r : Read (Moment → Read Moment)). ◌>>=◌ r (λ f. f p)) (beside_by (λ k. step_of k offset i s) kinds s) ∙ go (beside kinds s)
+  words_by : ◌>>=◌ (beside (words offset i) s) (λ f. f p) ≡ ◌>>=◌ (beside kinds s) (λ k. step_of k offset i s p)
+  words_by = ap (λ (r : Read (Moment → Read Moment)). ◌>>=◌ r (λ f. f p)) (beside_by (λ k. step_of k offset i s) kinds s) ∙ go (beside kinds s)
     where
       go : (r : Read Kind) → ◌>>=◌ (◌>>=◌ r (λ k. got (step_of k offset i s))) (λ f. f p) ≡ ◌>>=◌ r (λ k. step_of k offset i s p)
       go (got k) = refl
@@ -122,7 +122,7 @@ module _ (offset : ℤ) (i : ℕ) (s : List ℕ) (p : Moment) where
 
   pub by_kind : modifier offset i s p ≡ step_of (kind_of s) offset i s p
   unfolding modifier kind_of leads
-  by_kind = rw words-by (in_order (beside kinds s) (leads (ascii "weekday ") s) (leads (ascii "start of ") s) (counts s) (found kinds s))
+  by_kind = rw words_by (in_order (beside kinds s) (leads (ascii "weekday ") s) (leads (ascii "start of ") s) (counts s) (found kinds s))
 
 pub of_kind : {k : Kind} (offset : ℤ) (i : ℕ) (s : List ℕ) (p : Moment) → kind_of s ≡ k → modifier offset i s p ≡ step_of k offset i s p
 of_kind offset i s p e = by_kind offset i s p ∙ ap (λ (k : Kind). step_of k offset i s p) e
@@ -187,26 +187,26 @@ abbrev Stands : Moment → Bool
 Stands p = p.counted || (p.dated || p.timed)
 
 module _ (s : List ℕ) (p : Moment) where
-  pub start-not : Stands p ≡ false → start_of s p ≡ refuse Refusal.Null
+  pub start_not : Stands p ≡ false → start_of s p ≡ refuse Refusal.Null
   unfolding start_of
-  start-not h = rw h (go (beside starts s) (found starts s))
+  start_not h = rw h (go (beside starts s) (found starts s))
     where
       go : (r : Read (Moment → Moment)) → Found r → ◌>>=◌ (or_null r) (λ f. provided false (f (day_start p))) ≡ refuse Refusal.Null
       go (got f) k = refl
       go other k = refl
 
   module _ (h : Stands p ≡ true) where
-    pub start-day : word (ascii "day") s ≡ true → start_of s p ≡ got (day_start p)
+    pub start_day : word (ascii "day") s ≡ true → start_of s p ≡ got (day_start p)
     unfolding start_of beside
-    start-day a = rw (h, a)
+    start_day a = rw (h, a)
 
-    pub start-month : word (ascii "day") s ≡ false → word (ascii "month") s ≡ true → start_of s p ≡ got (first_of_month (day_start p))
+    pub start_month : word (ascii "day") s ≡ false → word (ascii "month") s ≡ true → start_of s p ≡ got (first_of_month (day_start p))
     unfolding start_of beside
-    start-month a b = rw (h, a, b)
+    start_month a b = rw (h, a, b)
 
-    pub start-year : word (ascii "day") s ≡ false → word (ascii "month") s ≡ false → word (ascii "year") s ≡ true → start_of s p ≡ got (first_of_year (day_start p))
+    pub start_year : word (ascii "day") s ≡ false → word (ascii "month") s ≡ false → word (ascii "year") s ≡ true → start_of s p ≡ got (first_of_year (day_start p))
     unfolding start_of beside
-    start-year a b c = rw (h, a, b, c)
+    start_year a b c = rw (h, a, b, c)
 
   pub start_none : word (ascii "day") s ≡ false → word (ascii "month") s ≡ false → word (ascii "year") s ≡ false → start_of s p ≡ refuse Refusal.Null
   unfolding start_of beside

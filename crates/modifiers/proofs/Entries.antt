@@ -115,45 +115,45 @@ high_here b s h = rw (lt-leb b 127 h)
 
 module _ (h : Bool) (n k : ℕ) (s : List ℕ) (i : ℕ) where
   module _ (inside : i < length s) (z : get_or s i 0 ≡ 0) where
-    here-zero : drop i s ≡ 0 ∷ drop (i + 1) s
-    here-zero = rw (add-one, drop-cons s i 0 inside, z)
+    here_zero : drop i s ≡ 0 ∷ drop (i + 1) s
+    here_zero = rw (add-one, drop-cons s i 0 inside, z)
 
-    pub fault-zero : n < 16 → k ≤ 255 → fault_from h n k (drop i s) ≡ fault_from h (n + 1) 0 (drop (i + 1) s)
+    pub fault_zero : n < 16 → k ≤ 255 → fault_from h n k (drop i s) ≡ fault_from h (n + 1) 0 (drop (i + 1) s)
     unfolding fault_from
-    fault-zero m l = rw (here-zero, bad_zero n k (drop (i + 1) s) m l, high_on 0 (drop (i + 1) s) (omega arith))
+    fault_zero m l = rw (here_zero, bad_zero n k (drop (i + 1) s) m l, high_on 0 (drop (i + 1) s) (omega arith))
 
-    pub fault-many : n ≡ 16 → fault_from h n k (drop i s) ≡ Shape
+    pub fault_many : n ≡ 16 → fault_from h n k (drop i s) ≡ Shape
     unfolding fault_from
-    fault-many e = rw (here-zero, bad_many n k (drop (i + 1) s) e)
+    fault_many e = rw (here_zero, bad_many n k (drop (i + 1) s) e)
 
   module _ (inside : i < length s) (b : get_or s i 0 ≢ 0) where
-    here-byte : drop i s ≡ get_or s i 0 ∷ drop (i + 1) s
-    here-byte = rw (add-one, drop-cons s i 0 inside)
+    here_byte : drop i s ≡ get_or s i 0 ∷ drop (i + 1) s
+    here_byte = rw (add-one, drop-cons s i 0 inside)
 
-    pub fault-byte : get_or s i 0 ≤ 127 → fault_from h n k (drop i s) ≡ fault_from h n (k + 1) (drop (i + 1) s)
+    pub fault_byte : get_or s i 0 ≤ 127 → fault_from h n k (drop i s) ≡ fault_from h n (k + 1) (drop (i + 1) s)
     unfolding fault_from
-    fault-byte l = rw (here-byte, bad_byte n k (get_or s i 0) (drop (i + 1) s) b, high_on (get_or s i 0) (drop (i + 1) s) l)
+    fault_byte l = rw (here_byte, bad_byte n k (get_or s i 0) (drop (i + 1) s) b, high_on (get_or s i 0) (drop (i + 1) s) l)
 
-    pub fault-high : 127 < get_or s i 0 → fault_from h n k (drop i s) ≡ fault_from true n (k + 1) (drop (i + 1) s)
+    pub fault_high : 127 < get_or s i 0 → fault_from h n k (drop i s) ≡ fault_from true n (k + 1) (drop (i + 1) s)
     unfolding fault_from
-    fault-high l = rw (here-byte, bad_byte n k (get_or s i 0) (drop (i + 1) s) b, high_here (get_or s i 0) (drop (i + 1) s) l, or_true h)
+    fault_high l = rw (here_byte, bad_byte n k (get_or s i 0) (drop (i + 1) s) b, high_here (get_or s i 0) (drop (i + 1) s) l, or_true h)
 
-    pub fault-long : k ≡ 255 → fault_from h n k (drop i s) ≡ Shape
+    pub fault_long : k ≡ 255 → fault_from h n k (drop i s) ≡ Shape
     unfolding fault_from
-    fault-long e = rw (here-byte, bad_long n k (get_or s i 0) (drop (i + 1) s) b e)
+    fault_long e = rw (here_byte, bad_long n k (get_or s i 0) (drop (i + 1) s) b e)
 
   module _ (past : length s ≤ i) where
-    pub fault-open : 0 < k → fault_from h n k (drop i s) ≡ Shape
+    pub fault_open : 0 < k → fault_from h n k (drop i s) ≡ Shape
     unfolding fault_from
-    fault-open l = rw (drop_of_length-le s past, lt-ltb 0 k l)
+    fault_open l = rw (drop_of_length-le s past, lt-ltb 0 k l)
 
-    pub fault-end : k ≤ 0 → fault_from h n k (drop i s) ≡ (if h then Bytes else Nothing)
+    pub fault_end : k ≤ 0 → fault_from h n k (drop i s) ≡ (if h then Bytes else Nothing)
     unfolding fault_from high every
-    fault-end l = rw (drop_of_length-le s past, le-ltb 0 k l, or-false h)
+    fault_end l = rw (drop_of_length-le s past, le-ltb 0 k l, or_false h)
       where
-        or-false : (t : Bool) → t || false ≡ t
-        or-false true = refl
-        or-false false = refl
+        or_false : (t : Bool) → t || false ≡ t
+        or_false true = refl
+        or_false false = refl
 
 -- ---- its modifiers, one after another
 

@@ -31,19 +31,19 @@ time_held s h e l = (rw e at h) l
 
 -- ---- the time after a date
 module _ (s : List ℕ) (at : ℕ) where
-  pub time-end : length s ≤ at → time_of (drop at s) ≡ got 0
+  pub time_end : length s ≤ at → time_of (drop at s) ≡ got 0
   unfolding time_of
-  time-end h = rw (drop_of_length-le s h)
+  time_end h = rw (drop_of_length-le s h)
 
   module _ (h : at < length s) where
-    pub time-other : get_or s at 0 ≢ 32 → time_of (drop at s) ≡ other
+    pub time_other : get_or s at 0 ≢ 32 → time_of (drop at s) ≡ other
     unfolding time_of
-    time-other k = rw (drop-cons s at 0 h, ne_eqb 32 (get_or s at 0) (λ e. k (sym e)))
+    time_other k = rw (drop-cons s at 0 h, ne_eqb 32 (get_or s at 0) (λ e. k (sym e)))
 
     module _ (k : get_or s at 0 ≡ 32) where
-      pub time-unread : time (skip wide_space (drop (at + 1) s)) ≡ other → time_of (drop at s) ≡ refuse Refusal.Null
+      pub time_unread : time (skip wide_space (drop (at + 1) s)) ≡ other → time_of (drop at s) ≡ refuse Refusal.Null
       unfolding time_of
-      time-unread e = rw (drop-cons s at 0 h, k, ← add-one at, e)
+      time_unread e = rw (drop-cons s at 0 h, k, ← add-one at, e)
 
       pub time_is : (t : Time) → time (skip wide_space (drop (at + 1) s)) ≡ got t → time_of (drop at s) ≡ got (time_part t)
       unfolding time_of
@@ -59,11 +59,11 @@ module _ (minus : Bool) (l : List ℕ) (p : Moment) where
   no_date e = date_parts ∙ rw e
 
   module _ (y m d : ℕ) (r : List ℕ) (e : year_month_day 0 11 30 l ≡ got (y, m, d, r)) where
-    pub date-other : time_of r ≡ other → date_step minus l p ≡ other
-    date-other k = date_parts ∙ rw (e, k)
+    pub date_other : time_of r ≡ other → date_step minus l p ≡ other
+    date_other k = date_parts ∙ rw (e, k)
 
-    pub date-refused : (x : Refusal) → time_of r ≡ refuse x → date_step minus l p ≡ refuse x
-    date-refused x k = date_parts ∙ rw (e, k)
+    pub date_refused : (x : Refusal) → time_of r ≡ refuse x → date_step minus l p ≡ refuse x
+    date_refused x k = date_parts ∙ rw (e, k)
 
     pub date_is : (t : ℕ) → time_of r ≡ got t → date_step minus l p ≡ got (by_date minus y m d t p)
     date_is t k = date_parts ∙ rw (e, k)
@@ -74,9 +74,9 @@ module _ (minus : Bool) (l : List ℕ) (p : Moment) (q : Read Moment) where
   unfolding time_step
   no_time e = rw e
 
-  pub is-time : (t : Time) → time l ≡ got t → ((time_step minus l p or q) or refuse Refusal.Null) ≡ got (byTime minus (time_part t) p)
+  pub is_time : (t : Time) → time l ≡ got t → ((time_step minus l p or q) or refuse Refusal.Null) ≡ got (byTime minus (time_part t) p)
   unfolding time_step
-  is-time t e = rw e
+  is_time t e = rw e
 
 -- ---- `N unit`
 -- a word's bytes
@@ -88,33 +88,33 @@ module _ (s : List ℕ) (p : Moment) where
   unfolding unit_step
   unit_none e = rw e
 
-  pub unit-over : (x : Refusal) → decimal (front in_word s) ≡ refuse x → (unit_step s p or refuse Refusal.Null) ≡ refuse x
+  pub unit_over : (x : Refusal) → decimal (front in_word s) ≡ refuse x → (unit_step s p or refuse Refusal.Null) ≡ refuse x
   unfolding unit_step
-  unit-over x e = rw e
+  unit_over x e = rw e
 
-  pub unit-is : (n : Float) → decimal (front in_word s) ≡ got n → unit_step s p ≡ step_by (unit_of (front in_word (skip wide_space (drop (length (front in_word s)) s)))) n p
+  pub unit_is : (n : Float) → decimal (front in_word s) ≡ got n → unit_step s p ≡ step_by (unit_of (front in_word (skip wide_space (drop (length (front in_word s)) s)))) n p
   unfolding unit_step
-  unit-is n e = rw e (by_unit _ n p)
+  unit_is n e = rw e (by_unit _ n p)
 
 -- a unit of a fixed length
 module _ (limit unit n : Float) (p : Moment) where
-  pub length-out : below n limit ≡ false → rule.by_length limit unit n p ≡ refuse Refusal.Null
+  pub length_out : below n limit ≡ false → rule.by_length limit unit n p ≡ refuse Refusal.Null
   unfolding rule.by_length
-  length-out e = rw e
+  length_out e = rw e
 
-  pub length-in : below n limit ≡ true → rule.by_length limit unit n p ≡ got (by_length (unit_ms unit n) p)
+  pub length_in : below n limit ≡ true → rule.by_length limit unit n p ≡ got (by_length (unit_ms unit n) p)
   unfolding rule.by_length
-  length-in e = rw e
+  length_in e = rw e
 
 -- one of months
 module _ (limit : Float) (k : ℕ) (days n : Float) (p : Moment) where
-  pub months-out : below n limit ≡ false → rule.by_months limit k days n p ≡ refuse Refusal.Null
+  pub months_out : below n limit ≡ false → rule.by_months limit k days n p ≡ refuse Refusal.Null
   unfolding rule.by_months
-  months-out e = rw e
+  months_out e = rw e
 
-  pub months-in : below n limit ≡ true → rule.by_months limit k days n p ≡ got (by_months k days n p)
+  pub months_in : below n limit ≡ true → rule.by_months limit k days n p ≡ got (by_months k days n p)
   unfolding rule.by_months
-  months-in e = rw e
+  months_in e = rw e
 
 -- by the scale of the unit; either ends the reading
 final : (t : Bool) (p : Moment) → (provided t p or refuse Refusal.Null) ≡ provided t p
@@ -122,19 +122,19 @@ final true p = refl
 final false p = refl
 
 module _ (u : Named) (n : Float) (p : Moment) where
-  by-scale : (s : Scale) → scale_of u ≡ s → (step_by u n p or refuse Refusal.Null) ≡ (by_scale s n p or refuse Refusal.Null)
-  by-scale s e = ap (λ s. by_scale s n p or refuse Refusal.Null) e
+  by_scale_lem : (s : Scale) → scale_of u ≡ s → (step_by u n p or refuse Refusal.Null) ≡ (by_scale s n p or refuse Refusal.Null)
+  by_scale_lem s e = ap (λ s. by_scale s n p or refuse Refusal.Null) e
 
-  pub length-by : (l m : Float) → scale_of u ≡ Scale.Length l m → (step_by u n p or refuse Refusal.Null) ≡ rule.by_length l m n p
+  pub length_by : (l m : Float) → scale_of u ≡ Scale.Length l m → (step_by u n p or refuse Refusal.Null) ≡ rule.by_length l m n p
   unfolding rule.by_length
-  length-by l m e = by-scale _ e ∙ final (below n l) _
+  length_by l m e = by_scale_lem _ e ∙ final (below n l) _
 
-  pub months-by : (l : Float) (k : ℕ) (d : Float) → scale_of u ≡ Scale.Months l k d → (step_by u n p or refuse Refusal.Null) ≡ rule.by_months l k d n p
+  pub months_by : (l : Float) (k : ℕ) (d : Float) → scale_of u ≡ Scale.Months l k d → (step_by u n p or refuse Refusal.Null) ≡ rule.by_months l k d n p
   unfolding rule.by_months
-  months-by l k d e = by-scale _ e ∙ final (below n l) _
+  months_by l k d e = by_scale_lem _ e ∙ final (below n l) _
 
-  pub none-by : scale_of u ≡ Scale.Unknown → (step_by u n p or refuse Refusal.Null) ≡ refuse Refusal.Null
-  none-by e = by-scale _ e
+  pub none_by : scale_of u ≡ Scale.Unknown → (step_by u n p or refuse Refusal.Null) ≡ refuse Refusal.Null
+  none_by e = by_scale_lem _ e
 
 -- how far n units of a scale move, below its limit
 abbrev Reach : Float → Scale → Type 0
@@ -163,8 +163,8 @@ module _ (s : List ℕ) (p : Moment) (minus : Bool) (l : List ℕ) (e : sign s �
   pub dated : (r : Moment) → date_step minus l p ≡ got r → (arithmetic s p or refuse Refusal.Null) ≡ got r
   dated r h = in_order ∙ rw h
 
-  pub date-stops : (x : Refusal) → date_step minus l p ≡ refuse x → (arithmetic s p or refuse Refusal.Null) ≡ refuse x
-  date-stops x h = in_order ∙ rw h
+  pub date_stops : (x : Refusal) → date_step minus l p ≡ refuse x → (arithmetic s p or refuse Refusal.Null) ≡ refuse x
+  date_stops x h = in_order ∙ rw h
 
   pub not_dated : date_step minus l p ≡ other → (arithmetic s p or refuse Refusal.Null) ≡ ((time_step minus l p or unit_step s p) or refuse Refusal.Null)
   not_dated h = in_order ∙ rw h

@@ -10,7 +10,7 @@ use Rattle.rules.specs.Modifiers.{provided, wide_space, signed, fraction_ms, by_
 use Rattle.rules.specs.Reading.{space, time}
 use Rattle.rules.specs.Writing.{places, width, wide, shift_text}
 use Rattle.text.proofs.Bytes.{digit_byte, not_space}
-use Rattle.text.proofs.Reading.{or-got, or_other}
+use Rattle.text.proofs.Reading.{or_got, or_other}
 use Rattle.text.proofs.Tests.{and_false}
 use Rattle.modifiers.proofs.Written.{wide_places, wide_read, clock_text, clock_read, clock_ms_lem}
 
@@ -113,7 +113,7 @@ pub shift_read : (offset : ℤ) (i : ℕ) (minus : Bool) (n rest : ℕ) (p : Mom
 shift_read offset i minus n rest p hn hr =
     rw (shift_is n rest)
     (signed_read offset i minus _ p _ (solid_after (wide 4 (n / 12)) (solid_cons 45 (solid_after (wide 2 (n % 12)) (solid_cons 45 (solid_after (wide 2 (rest / day_length)) (solid_cons 32 (solid_clock rest)))))))
-    (or-got _ (date_read minus (n / 12) (n % 12) (rest / day_length) rest p hn (omega arith) (omega arith))))
+    (or_got _ (date_read minus (n / 12) (n % 12) (rest / day_length) rest p hn (omega arith) (omega arith))))
 
 -- ---- a time, to the millisecond, moves by that
 

@@ -25,9 +25,9 @@ module _ {offset : ℤ} {s : List ℕ} {p q : Moment} {at i : ℕ} (g : Going of
     unfolding modified
     going_on h a = record { walk = n.next; after = a; is = g.is ∙ rw (n.split, h, add-one i) }
 
-    pub going-stop : {x : Refusal} → modifier offset i (part s at e) q ≡ refuse x → modified offset 0 (modifiers s) p ≡ refuse x
+    pub going_stop : {x : Refusal} → modifier offset i (part s at e) q ≡ refuse x → modified offset 0 (modifiers s) p ≡ refuse x
     unfolding modified
-    going-stop h = g.is ∙ rw (n.split, h)
+    going_stop h = g.is ∙ rw (n.split, h)
 
   pub going_end : length s ≤ at → (modified offset 0 (modifiers s) p ≡ got q) × After (most_before + 1) q
   unfolding modified modifiers

@@ -10,7 +10,7 @@ use Rattle.rules.specs.Modifiers.{time_part}
 use Rattle.rules.specs.Reading.{space, fraction_of, fraction_in, fraction, seconds_in, seconds, zone_in, time}
 use Rattle.rules.specs.Writing.{places, width, wide}
 use Rattle.rules.specs.declared.Time.{Time}
-use Rattle.real.proofs.Seconds.{exact-ms}
+use Rattle.real.proofs.Seconds.{exact_ms}
 use Rattle.text.proofs.Bytes.{digit_byte}
 use Rattle.text.proofs.Digits.{digits_written}
 
@@ -57,7 +57,7 @@ second_ms : (v : ℕ) → seconds_ms (second_of v) ≡ v % 60000
 unfolding value
 second_ms v =
     let e : 1000 * value 0 (lowest v) ≡ v % 1000 * 1000 = omega arith in
-    exact-ms (lowest v) (v / 1000 % 60) (omega arith, (omega arith, (omega arith, tt))) (omega arith) (omega arith) (v % 1000) (omega arith) e ∙ omega arith
+    exact_ms (lowest v) (v / 1000 % 60) (omega arith, (omega arith, (omega arith, tt))) (omega arith) (omega arith) (v % 1000) (omega arith) e ∙ omega arith
 
 -- ---- a time of day, to the millisecond: that of the last day of v milliseconds
 abbrev pub clock_text : ℕ → List ℕ

@@ -23,7 +23,7 @@ use Rattle.calendar.proofs.Years.{days_high, month_low}
 use Rattle.real.specs.InMinute.{in_minute}
 use Rattle.real.specs.StepMost.{step_most}
 use Rattle.real.proofs.Tests.{and_right}
-use Rattle.real.proofs.Seconds.{minute-ms, filled-minute}
+use Rattle.real.proofs.Seconds.{minute_ms, filled_minute}
 use Rattle.real.proofs.Epoch.{julian_ms_lem}
 use Rattle.moment.specs.Ranges.{sum_takes, TimeIn, TimeRead, Sane, ReadYear, Near, After, most_before, Ranged, Full}
 use Rattle.moment.specs.Steps.{first_of_month, first_of_year}
@@ -124,7 +124,7 @@ midnight_high y m d c = omega (arith, start_is, days_high y m d c)
 
 -- a time of day, hour 24 too, is less than 25 hours
 time_most : (h m : ℕ) (s : Float) → h ≤ 24 → m ≤ 59 → in_minute s ≡ true → time_ms h m s < 90000000
-time_most h m s a b c = omega (arith, minute-ms s c)
+time_most h m s a b c = omega (arith, minute_ms s c)
 
 -- a sum of fields lies near the millisecond 0, and only a year that was in range still stands
 sum_after : (p : Moment) (y m d : ℕ) → Sane p → MonthDay m d → (p.dated ≡ true → p.year ≡ y) → After 0 (sum_of p y m d)
@@ -172,7 +172,7 @@ fill_date_kept p =
 
 -- t milliseconds after midnight
 time_kept : (p : Moment) (t : ℕ) → t < 86400000 → Kept p (on_time p t)
-time_kept p t h = kept p (on_time p t) (λ s. record { date = s.date; time = record { hours = omega arith; minutes = omega arith; seconds = λ _. filled-minute (t % 60000) (omega arith); zone_low = s.time.zone_low; zone_high = s.time.zone_high }; overs = s.overs }) (λ y. y) (λ n a. a)
+time_kept p t h = kept p (on_time p t) (λ s. record { date = s.date; time = record { hours = omega arith; minutes = omega arith; seconds = λ _. filled_minute (t % 60000) (omega arith); zone_low = s.time.zone_low; zone_high = s.time.zone_high }; overs = s.overs }) (λ y. y) (λ n a. a)
 
 pub fill_time_kept : (p : Moment) → Kept p (fill_time p)
 fill_time_kept p = time_cases (λ (q : Moment). Kept p q) p (λ _. kept_same p) (kept_then p (count_ms p) _ (count_kept p) (time_kept (count_ms p) _ (time_high (count_ms p).ms)))

@@ -29,25 +29,25 @@ step_moved p b k s h e = record { is = e; sane = subst (λ (x : rule.Moment). Sa
 
 -- ---- one after another
 module _ {p q r : Moment} {x : rule.Moment} (g : rule.Moment → rule.Moment) where
-  pub then-fill : Filled p q x → Filled q r (g (held q)) → Filled p r (g x)
-  then-fill f h = record { is = h.is ∙ ap g f.is; sane = h.sane; after = λ n a. h.after n (f.after n a) }
+  pub then_fill : Filled p q x → Filled q r (g (held q)) → Filled p r (g x)
+  then_fill f h = record { is = h.is ∙ ap g f.is; sane = h.sane; after = λ n a. h.after n (f.after n a) }
 
-  pub then-move : Filled p q x → Moved q r (g (held q)) → Moved p r (g x)
-  then-move f h = record { is = h.is ∙ ap g f.is; sane = h.sane; after = λ n a. h.after n (f.after n a) }
+  pub then_move : Filled p q x → Moved q r (g (held q)) → Moved p r (g x)
+  then_move f h = record { is = h.is ∙ ap g f.is; sane = h.sane; after = λ n a. h.after n (f.after n a) }
 
-  pub move-fill : Moved p q x → Filled q r (g (held q)) → Moved p r (g x)
-  move-fill f h = record { is = h.is ∙ ap g f.is; sane = h.sane; after = λ n a. h.after (n + 1) (f.after n a) }
+  pub move_fill : Moved p q x → Filled q r (g (held q)) → Moved p r (g x)
+  move_fill f h = record { is = h.is ∙ ap g f.is; sane = h.sane; after = λ n a. h.after (n + 1) (f.after n a) }
 
 -- a record whose milliseconds do not stand is summed before it is moved: its year may lie out of range
 module _ {u q : Moment} (s : Sane (held u)) (c : (held u).counted ≡ false) (f : Filled u q (rule.count_ms (held u))) where
   fresh : After 0 (held q)
   fresh = subst (λ (x : rule.Moment). After 0 x) (sym f.is) (count_fresh (held u) s c)
 
-  pub fresh-movable : Movable (held q)
-  fresh-movable = after_more 0 most_before (held q) (omega arith) fresh
+  pub fresh_movable : Movable (held q)
+  fresh_movable = after_more 0 most_before (held q) (omega arith) fresh
 
-  pub fresh-move : (p : Moment) {r : Moment} (g : rule.Moment → rule.Moment) → Moved q r (g (held q)) → Moved p r (g (rule.count_ms (held u)))
-  fresh-move p {r} g m = record { is = m.is ∙ ap g f.is; sane = m.sane; after = λ n a. after_more 1 (n + 1) (held r) (omega arith) (m.after 0 fresh) }
+  pub fresh_move : (p : Moment) {r : Moment} (g : rule.Moment → rule.Moment) → Moved q r (g (held q)) → Moved p r (g (rule.count_ms (held u)))
+  fresh_move p {r} g m = record { is = m.is ∙ ap g f.is; sane = m.sane; after = λ n a. after_more 1 (n + 1) (held r) (omega arith) (m.after 0 fresh) }
 
 module _ {p r : Moment} {x : rule.Moment} where
   -- a step that only fills is no further than one that moves
@@ -55,8 +55,8 @@ module _ {p r : Moment} {x : rule.Moment} where
   no_move f = record { is = f.is; sane = f.sane; after = λ n a. after_more n (n + 1) (held r) (omega arith) (f.after n a) }
 
   -- the same record, as the rules say it
-  pub filled-as : {y : rule.Moment} → x ≡ y → Filled p r x → Filled p r y
-  filled-as e f = record { is = f.is ∙ e; sane = f.sane; after = f.after }
+  pub filled_as : {y : rule.Moment} → x ≡ y → Filled p r x → Filled p r y
+  filled_as e f = record { is = f.is ∙ e; sane = f.sane; after = f.after }
 
   pub moved_as : {y : rule.Moment} → x ≡ y → Moved p r x → Moved p r y
   moved_as e f = record { is = f.is ∙ e; sane = f.sane; after = f.after }

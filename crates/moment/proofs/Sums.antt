@@ -89,11 +89,11 @@ with_meant p n = go p.timed
     there : Moment
     there = set_utc (clear (counted p (here + no_zone * 60000 - p.zone * 60000)))
 
-    zoneless-ms : (a z : ℕ) → eqb z no_zone ≡ true → a ≡ a + no_zone * 60000 - z * 60000
-    zoneless-ms a z h = let e = eqb-true z no_zone h in rw e (omega arith)
+    zoneless_ms : (a z : ℕ) → eqb z no_zone ≡ true → a ≡ a + no_zone * 60000 - z * 60000
+    zoneless_ms a z h = let e = eqb-true z no_zone h in rw e (omega arith)
 
     go : (b : Bool) → (if b then (if eqb p.zone no_zone then counted p here else there) else counted p n) ≡ summed_at p n (if b then record { hour = p.hour; minute = p.minute; second = p.second; zone = p.zone; utc = false } else record { hour = 0; minute = 0; second = number 0; zone = no_zone; utc = false })
-    go true = same_else (eqb p.zone no_zone) there (λ h. ap (counted p) (zoneless-ms here p.zone h))
+    go true = same_else (eqb p.zone no_zone) there (λ h. ap (counted p) (zoneless_ms here p.zone h))
     go false = ap (counted p) (omega (arith, no_time_ms))
 
 pub count_sums : (p : Moment) (d : Ymd) (t : Time) (n : ℕ) → d ≡ date_meant p → t ≡ time_meant p → n ≡ civil_instant d.year d.month d.day t.hour t.minute t.second t.zone → p.counted ≡ false → sum_takes d.year p.raw ≡ true → summed_to p n t.zone ≡ count_ms p

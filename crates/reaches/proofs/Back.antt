@@ -21,7 +21,7 @@ use Rattle.rules.specs.declared.Refusal.{Refusal}
 use Rattle.rules.specs.declared.Setting.{Setting}
 use Rattle.calendar.specs.Ranges.{InRange}
 use Rattle.moment.proofs.Branches.{never, either, by_test}
-use Rattle.timediff.proofs.Text.{bytes-range}
+use Rattle.timediff.proofs.Text.{bytes_range}
 use Rattle.law_putback.specs.Demand.{Instant, value, alone, shift_by, Kept}
 use Rattle.reading.specs.Written.{written}
 use Rattle.law_putback.proofs.Demand.{demand_3}
@@ -53,7 +53,7 @@ unfolding ranged
 within p = by_test Within (not (count_ms p).failed && in_range (count_ms p).ms) (got (count_ms p)) (refuse Refusal.Null) (λ h. in_it (not (count_ms p).failed) (count_ms p).ms h) (λ _. tt)
 
 both_said : (r s : Read Moment) → Within r → Within s → Said (settle (◌>>=◌ r (λ (p : Moment). ◌>>=◌ s (λ (q : Moment). got (text (difference p.ms q.ms))))))
-both_said (got p) (got q) A B = bytes-range p.ms q.ms A B
+both_said (got p) (got q) A B = bytes_range p.ms q.ms A B
 both_said (got p) other A B = tt
 both_said (got p) (refuse x) A B = tt
 both_said other s A B = tt
@@ -136,50 +136,50 @@ module _ (o : Outcome) (span : List ℕ) (k : ℕ) (r : Answer) (held : List ℕ
     size : (24 ≤ length fit.bytes) × (length fit.bytes ≤ 25)
     size = subst (λ (x : Outcome). Said x) fit.is s
 
-    within-span : k < length span
-    within-span = omega (arith, fit.low, size.0)
+    within_span : k < length span
+    within_span = omega (arith, fit.low, size.0)
 
-    held-is : held ≡ fit.bytes ++ drop (length fit.bytes) (take k span)
+    held_is : held ≡ fit.bytes ++ drop (length fit.bytes) (take k span)
     unfolding after
-    held-is = holds ∙ ap (λ (x : Outcome). after x (take k span)) fit.is ∙ rw (part, le-leb (length fit.bytes) k fit.low)
+    held_is = holds ∙ ap (λ (x : Outcome). after x (take k span)) fit.is ∙ rw (part, le-leb (length fit.bytes) k fit.low)
 
-    pub text-index : n < length (held ++ drop k span)
-    text-index = omega (arith, length-append held (drop k span), ap length held-is, length-append fit.bytes (drop (length fit.bytes) (take k span)), length-drop-end, fit.count)
+    pub text_index : n < length (held ++ drop k span)
+    text_index = omega (arith, length-append held (drop k span), ap length held_is, length-append fit.bytes (drop (length fit.bytes) (take k span)), length_drop_end, fit.count)
       where
-        length-drop-end : 1 ≤ length (drop k span)
-        length-drop-end = rw (drop-cons span k 0 within-span) (omega arith)
+        length_drop_end : 1 ≤ length (drop k span)
+        length_drop_end = rw (drop-cons span k 0 within_span) (omega arith)
 
-    pub text-small : n ≤ 25
-    text-small = omega (arith, fit.count, size.1)
+    pub text_small : n ≤ 25
+    text_small = omega (arith, fit.count, size.1)
 
-    pub text-put : (Answer.Text (n + 1) ≡ answered (ended o) (length span)) × (set (held ++ drop k span) n 0 ≡ after (ended o) span)
+    pub text_put : (Answer.Text (n + 1) ≡ answered (ended o) (length span)) × (set (held ++ drop k span) n 0 ≡ after (ended o) span)
     unfolding answered after
-    text-put =
+    text_put =
         let t = fit.bytes in
-        let h : length (alone t) ≤ length span = omega (arith, alone_length t, fit.low, within-span) in
+        let h : length (alone t) ≤ length span = omega (arith, alone_length t, fit.low, within_span) in
         let c : n + 1 ≡ length (alone t) = omega (arith, alone_length t, fit.count) in
-        rw (fit.is, le-leb (length (alone t)) (length span) h) (ap Answer.Text c, ap (λ (x : List ℕ). set (x ++ drop k span) n 0) held-is ∙ ap (λ (m : ℕ). set ((t ++ drop (length t) (take k span)) ++ drop k span) m 0) fit.count ∙ laid t span k fit.low within-span)
+        rw (fit.is, le-leb (length (alone t)) (length span) h) (ap Answer.Text c, ap (λ (x : List ℕ). set (x ++ drop k span) n 0) held_is ∙ ap (λ (m : ℕ). set ((t ++ drop (length t) (take k span)) ++ drop k span) m 0) fit.count ∙ laid t span k fit.low within_span)
 
   -- a text that lacks room
   module _ (n : ℕ) (e : r ≡ Answer.NoRoom n) where
     lack : Lacks o k n
     lack = known (Answer.NoRoom n) e
 
-    pub short-small : n ≤ 25
-    short-small = let z : (24 ≤ length lack.bytes) × (length lack.bytes ≤ 25) = subst (λ (x : Outcome). Said x) lack.is s in omega (arith, lack.count, z.1)
+    pub short_small : n ≤ 25
+    short_small = let z : (24 ≤ length lack.bytes) × (length lack.bytes ≤ 25) = subst (λ (x : Outcome). Said x) lack.is s in omega (arith, lack.count, z.1)
 
-    pub short-put : (Answer.NoRoom (n + 1) ≡ answered (ended o) (length span)) × (held ++ drop k span ≡ after (ended o) span)
+    pub short_put : (Answer.NoRoom (n + 1) ≡ answered (ended o) (length span)) × (held ++ drop k span ≡ after (ended o) span)
     unfolding answered after
-    short-put =
+    short_put =
         let t = lack.bytes in
         let h : length span < length (alone t) = omega (arith, alone_length t, lack.high) in
         let c : n + 1 ≡ length (alone t) = omega (arith, alone_length t, lack.count) in
         let same : held ≡ take k span = holds ∙ ap (λ (x : Outcome). after x (take k span)) lack.is ∙ rw (part, lt-leb (length t) k lack.high) in
         rw (lack.is, lt-leb (length (alone t)) (length span) h) (ap Answer.NoRoom c, ap (λ (x : List ℕ). x ++ drop k span) same ∙ take-append-drop k span)
 
-  pub refused-put : (x : Refusal) → r ≡ Answer.Refused x → (Answer.Refused x ≡ answered (ended o) (length span)) × (held ++ drop k span ≡ after (ended o) span)
+  pub refused_put : (x : Refusal) → r ≡ Answer.Refused x → (Answer.Refused x ≡ answered (ended o) (length span)) × (held ++ drop k span ≡ after (ended o) span)
   unfolding answered after
-  refused-put x e =
+  refused_put x e =
       let i : o ≡ refused x = known (Answer.Refused x) e in
       rw i (refl, ap (λ (x : List ℕ). x ++ drop k span) (holds ∙ ap (λ (y : Outcome). after y (take k span)) i) ∙ take-append-drop k span)
 
@@ -212,49 +212,49 @@ module _ (set : Setting) (f : Value → List ℕ → Call) (a b : List ℕ) (spa
     span_fits : Fits (span_of set a b) (length span) n
     span_fits = told (span_of set a b) (length span) (Answer.Text n) is e
 
-    held-span : held ≡ span_fits.bytes ++ drop (length span_fits.bytes) span
+    held_span : held ≡ span_fits.bytes ++ drop (length span_fits.bytes) span
     unfolding after
-    held-span = holds ∙ ap (λ (x : Outcome). after x span) span_fits.is ∙ rw (le-leb (length span_fits.bytes) (length span) span_fits.low)
+    held_span = holds ∙ ap (λ (x : Outcome). after x span) span_fits.is ∙ rw (le-leb (length span_fits.bytes) (length span) span_fits.low)
 
-    pub back-room : n ≤ length held
-    back-room = omega (arith, span_fits.count, ap length held-span, length-append span_fits.bytes (drop (length span_fits.bytes) span))
+    pub back_room : n ≤ length held
+    back_room = omega (arith, span_fits.count, ap length held_span, length-append span_fits.bytes (drop (length span_fits.bytes) span))
 
     -- what is lent of it is the modifier
     lent : take n held ≡ span_fits.bytes
-    lent = ap (λ (m : ℕ). take m held) span_fits.count ∙ ap (take (length span_fits.bytes)) held-span ∙ take-append_seam span_fits.bytes (drop (length span_fits.bytes) span)
+    lent = ap (λ (m : ℕ). take m held) span_fits.count ∙ ap (take (length span_fits.bytes)) held_span ∙ take-append_seam span_fits.bytes (drop (length span_fits.bytes) span)
 
-    pub back-text : {x : Answer} → x ≡ answered (answer set (f (bytes b) (take n held))) (length out) → x ≡ back_with set f a b (length span) (length out)
+    pub back_text : {x : Answer} → x ≡ answered (answer set (f (bytes b) (take n held))) (length out) → x ≡ back_with set f a b (length span) (length out)
     unfolding back_with
-    back-text h = h ∙ ap (λ (m : List ℕ). answered (answer set (f (bytes b) m)) (length out)) lent ∙ rw (span_fits.is, le-leb (length span_fits.bytes) (length span) span_fits.low)
+    back_text h = h ∙ ap (λ (m : List ℕ). answered (answer set (f (bytes b) m)) (length out)) lent ∙ rw (span_fits.is, le-leb (length span_fits.bytes) (length span) span_fits.low)
 
-    pub out-text : {new : List ℕ} → new ≡ after (answer set (f (bytes b) (take n held))) out → new ≡ out_with set f a b (length span) out
+    pub out_text : {new : List ℕ} → new ≡ after (answer set (f (bytes b) (take n held))) out → new ≡ out_with set f a b (length span) out
     unfolding out_with
-    out-text h = h ∙ ap (λ (m : List ℕ). after (answer set (f (bytes b) m)) out) lent ∙ rw (span_fits.is, le-leb (length span_fits.bytes) (length span) span_fits.low)
+    out_text h = h ∙ ap (λ (m : List ℕ). after (answer set (f (bytes b) m)) out) lent ∙ rw (span_fits.is, le-leb (length span_fits.bytes) (length span) span_fits.low)
 
   -- with less
   module _ (n : ℕ) (e : r ≡ Answer.NoRoom n) where
-    span-lacks : Lacks (span_of set a b) (length span) n
-    span-lacks = told (span_of set a b) (length span) (Answer.NoRoom n) is e
+    span_lacks : Lacks (span_of set a b) (length span) n
+    span_lacks = told (span_of set a b) (length span) (Answer.NoRoom n) is e
 
-    pub back-short : Answer.NoRoom n ≡ back_with set f a b (length span) (length out)
+    pub back_short : Answer.NoRoom n ≡ back_with set f a b (length span) (length out)
     unfolding back_with
-    back-short = rw (span-lacks.is, lt-leb (length span-lacks.bytes) (length span) span-lacks.high) (ap Answer.NoRoom span-lacks.count)
+    back_short = rw (span_lacks.is, lt-leb (length span_lacks.bytes) (length span) span_lacks.high) (ap Answer.NoRoom span_lacks.count)
 
-    pub out-short : out ≡ out_with set f a b (length span) out
+    pub out_short : out ≡ out_with set f a b (length span) out
     unfolding out_with
-    out-short = rw (span-lacks.is, lt-leb (length span-lacks.bytes) (length span) span-lacks.high)
+    out_short = rw (span_lacks.is, lt-leb (length span_lacks.bytes) (length span) span_lacks.high)
 
   module _ (x : Refusal) (e : r ≡ Answer.Refused x) where
-    span-refused : span_of set a b ≡ refused x
-    span-refused = told (span_of set a b) (length span) (Answer.Refused x) is e
+    span_refused : span_of set a b ≡ refused x
+    span_refused = told (span_of set a b) (length span) (Answer.Refused x) is e
 
-    pub back-refused : Answer.Refused x ≡ back_with set f a b (length span) (length out)
+    pub back_refused : Answer.Refused x ≡ back_with set f a b (length span) (length out)
     unfolding back_with
-    back-refused = rw span-refused
+    back_refused = rw span_refused
 
-    pub out-refused : out ≡ out_with set f a b (length span) out
+    pub out_refused : out ≡ out_with set f a b (length span) out
     unfolding out_with
-    out-refused = rw span-refused
+    out_refused = rw span_refused
 
 -- no number comes of a span
 pub said_span : (set : Setting) (a b : List ℕ) → NoNumber (span_of set a b)
@@ -281,9 +281,9 @@ short {o} t e c =
 
 -- what both functions promise, by a call f that answers B with timediff's text as it answers A
 module _ (set : Setting) (f : Value → List ℕ → Call) (same : (a b : Instant) (k : Kept set a b) → answer set (f (value b) (alone (shift_by k.plus k.months k.rest))) ≡ answer set (f (value a) [])) (a b span out : List ℕ) {r : Answer} {new : List ℕ} where
-  as-of : r ≡ back_with set f a b (length span) (length out) → new ≡ out_with set f a b (length span) out → AsOfA set f a b (length span) out new r
+  as_of : r ≡ back_with set f a b (length span) (length out) → new ≡ out_with set f a b (length span) out → AsOfA set f a b (length span) out new r
   unfolding AsOfA back_with out_with
-  as-of is holds A B ea eb ok room =
+  as_of is holds A B ea eb ok room =
       let K = demand_3 set ok A B in
       let t = shift_by K.plus K.months K.rest in
       let e : span_of set a b ≡ text (alone t) = ap (λ (s : List ℕ). span_of set s b) ea ∙ ap (λ (s : List ℕ). span_of set (written A.stamp) s) eb ∙ ap ended K.answers in
@@ -294,8 +294,8 @@ module _ (set : Setting) (f : Value → List ℕ → Call) (same : (a b : Instan
       )
 
 module _ (set : Setting) (a b span out : List ℕ) {r : Answer} {new : List ℕ} where
-  pub datetime-as-of : r ≡ back_with set (call Function.Datetime) a b (length span) (length out) → new ≡ out_with set (call Function.Datetime) a b (length span) out → AsOfA set (call Function.Datetime) a b (length span) out new r
-  datetime-as-of = as-of set (call Function.Datetime) (λ A B k. k.answers_as_A Function.Datetime) a b span out
+  pub datetime_as_of : r ≡ back_with set (call Function.Datetime) a b (length span) (length out) → new ≡ out_with set (call Function.Datetime) a b (length span) out → AsOfA set (call Function.Datetime) a b (length span) out new r
+  datetime_as_of = as_of set (call Function.Datetime) (λ A B k. k.answers_as_A Function.Datetime) a b span out
 
-  pub format-as-of : (g : List ℕ) → r ≡ back_with set (strftime g) a b (length span) (length out) → new ≡ out_with set (strftime g) a b (length span) out → AsOfA set (strftime g) a b (length span) out new r
-  format-as-of g = as-of set (strftime g) (λ A B k. k.formats_as_A g) a b span out
+  pub format_as_of : (g : List ℕ) → r ≡ back_with set (strftime g) a b (length span) (length out) → new ≡ out_with set (strftime g) a b (length span) out → AsOfA set (strftime g) a b (length span) out new r
+  format_as_of g = as_of set (strftime g) (λ A B k. k.formats_as_A g) a b span out

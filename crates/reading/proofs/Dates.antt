@@ -16,18 +16,18 @@ use Rattle.moment.specs.Sums.{Fresh, Unsettled}
 use Rattle.text.specs.Places.{begins, gap}
 use Rattle.text.proofs.Digits.{digits_short}
 use Rattle.reading.specs.Readers.{year_month_day, held_year}
-use Rattle.reading.proofs.Steps.{or_other, then_then, char-then, digits-then}
+use Rattle.reading.proofs.Steps.{or_other, then_then, char_then, digits_then}
 
 -- ---- YYYY-MM-DD
 module _ (low months days : ℕ) (l : List ℕ) where
-  pub ten-bytes : length l < 10 → year_month_day low months days l ≡ other
+  pub ten_bytes : length l < 10 → year_month_day low months days l ≡ other
   unfolding year_month_day
-  ten-bytes h =
-      digits-then 4 0 9999 l _ (λ y. char-then "-" (drop 4 l) _ (digits-then 2 low months (drop 1 (drop 4 l)) _ (λ m. char-then "-" (drop 2 (drop 1 (drop 4 l))) _ (rw (digits_short 2 low days (drop 1 (drop 2 (drop 1 (drop 4 l)))) (simp length-drop (omega arith)))))))
+  ten_bytes h =
+      digits_then 4 0 9999 l _ (λ y. char_then "-" (drop 4 l) _ (digits_then 2 low months (drop 1 (drop 4 l)) _ (λ m. char_then "-" (drop 2 (drop 1 (drop 4 l))) _ (rw (digits_short 2 low days (drop 1 (drop 2 (drop 1 (drop 4 l)))) (simp length-drop (omega arith)))))))
 
-  pub no-year : digits 4 0 9999 l ≡ other → year_month_day low months days l ≡ other
+  pub no_year : digits 4 0 9999 l ≡ other → year_month_day low months days l ≡ other
   unfolding year_month_day
-  no-year h = rw h
+  no_year h = rw h
 
   module _ (y : ℕ) (a : List ℕ) (h : digits 4 0 9999 l ≡ got (y, a)) where
     pub no_dash : byte "-" a ≡ other → year_month_day low months days l ≡ other
@@ -35,9 +35,9 @@ module _ (low months days : ℕ) (l : List ℕ) where
     no_dash k = rw (h, k)
 
     module _ (b : List ℕ) (k : byte "-" a ≡ got b) where
-      pub no-month : digits 2 low months b ≡ other → year_month_day low months days l ≡ other
+      pub no_month : digits 2 low months b ≡ other → year_month_day low months days l ≡ other
       unfolding year_month_day
-      no-month e = rw (h, k, e)
+      no_month e = rw (h, k, e)
 
       module _ (m : ℕ) (d : List ℕ) (e : digits 2 low months b ≡ got (m, d)) where
         pub no_second : byte "-" d ≡ other → year_month_day low months days l ≡ other
@@ -45,9 +45,9 @@ module _ (low months days : ℕ) (l : List ℕ) where
         no_second f = rw (h, k, e, f)
 
         module _ (n : List ℕ) (f : byte "-" d ≡ got n) where
-          pub no-day : digits 2 low days n ≡ other → year_month_day low months days l ≡ other
+          pub no_day : digits 2 low days n ≡ other → year_month_day low months days l ≡ other
           unfolding year_month_day
-          no-day g = rw (h, k, e, f, g)
+          no_day g = rw (h, k, e, f, g)
 
           pub ymd : (x : ℕ) (t : List ℕ) → digits 2 low days n ≡ got (x, t) → year_month_day low months days l ≡ got (y, m, x, t)
           unfolding year_month_day
@@ -59,9 +59,9 @@ module _ (l : List ℕ) where
   unfolding time_form
   no_time h = rw h
 
-  pub time-form : (t : Time) → time l ≡ got t → time_form l ≡ got (timed t)
+  pub time_form_lem : (t : Time) → time l ≡ got t → time_form l ≡ got (timed t)
   unfolding time_form
-  time-form t h = rw h
+  time_form_lem t h = rw h
 
 pub time_follows : (l : List ℕ) → 0 < length l → time_after l ≡ time_form l
 unfolding time_form
@@ -97,11 +97,11 @@ module _ (held : ℕ → ℕ) (l : List ℕ) where
   no_date h = parts ∙ rw h
 
   module _ (y m d : ℕ) (t : List ℕ) (h : year_month_day 1 12 31 l ≡ got (y, m, d, t)) where
-    pub no-time-after : time_after (skip gap t) ≡ other → date_from held l ≡ other
-    no-time-after k = parts ∙ rw (h, k)
+    pub no_time_after : time_after (skip gap t) ≡ other → date_from held l ≡ other
+    no_time_after k = parts ∙ rw (h, k)
 
-    pub date-and-time : (p : Moment) → time_after (skip gap t) ≡ got p → date_from held l ≡ got (settled (past_end (set_dated (set_date p (held y) m d) true)))
-    date-and-time p k = parts ∙ rw (h, k)
+    pub date_and_time : (p : Moment) → time_after (skip gap t) ≡ got p → date_from held l ≡ got (settled (past_end (set_dated (set_date p (held y) m d) true)))
+    date_and_time p k = parts ∙ rw (h, k)
 
 -- with no milliseconds: a zone may be taken off
 pub date_unsettled : (p q : Moment) (y m d : ℕ) → Fresh p → q ≡ past_end (set_dated (set_date p y m d) true) → Unsettled q

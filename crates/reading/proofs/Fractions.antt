@@ -13,7 +13,7 @@ use Rattle.rules.specs.Decimal.{run}
 use Rattle.rules.specs.Reading.{fraction_of, fraction_in, fraction, seconds_in, seconds}
 use Rattle.real.specs.InMinute.{in_minute}
 use Rattle.real.proofs.Run.{Digits, run_digits}
-use Rattle.real.proofs.Seconds.{fraction_none, read-minute}
+use Rattle.real.proofs.Seconds.{fraction_none, read_minute}
 use Rattle.text.specs.Places.{begins}
 
 -- the digits and what follows them are all
@@ -67,13 +67,13 @@ pub colon_at : (s : List ℕ) (at : ℕ) → begins 58 (drop at s) ≡ true → 
 colon_at s at h = colon (drop at s) h ∙ rw (drop-drop 1 at s)
 
 module _ (l : List ℕ) where
-  pub not-digits : digits 2 0 59 l ≡ other → seconds_in l ≡ other
+  pub not_digits : digits 2 0 59 l ≡ other → seconds_in l ≡ other
   unfolding seconds_in
-  not-digits h = rw h
+  not_digits h = rw h
 
-  pub with-fraction : (n : ℕ) (t : List ℕ) → digits 2 0 59 l ≡ got (n, t) → seconds_in l ≡ got (number n ⊕ (fraction t).0, (fraction t).1)
+  pub with_fraction : (n : ℕ) (t : List ℕ) → digits 2 0 59 l ≡ got (n, t) → seconds_in l ≡ got (number n ⊕ (fraction t).0, (fraction t).1)
   unfolding seconds_in
-  with-fraction n t h = rw h
+  with_fraction n t h = rw h
 
 -- ---- up to 59.999, whatever the fraction
 pub zero_minute : in_minute (number 0) ≡ true
@@ -81,15 +81,15 @@ unfolding of_int round le lt
 zero_minute = refl
 
 module _ (n : ℕ) (h : n ≤ 59) where
-  of-digits : (l : List ℕ) (p : List ℕ × List ℕ) → Digits p.0 → length p.0 ≤ 255 → in_minute (number n ⊕ (fraction_in l p).0) ≡ true
-  of-digits l ([], r) d k = ap (λ (x : Float). in_minute (number n ⊕ x)) (sym fraction_none) ∙ read-minute [] n tt k h
-  of-digits l (b ∷ ds, r) d k = read-minute (b ∷ ds) n d k h
+  of_digits : (l : List ℕ) (p : List ℕ × List ℕ) → Digits p.0 → length p.0 ≤ 255 → in_minute (number n ⊕ (fraction_in l p).0) ≡ true
+  of_digits l ([], r) d k = ap (λ (x : Float). in_minute (number n ⊕ x)) (sym fraction_none) ∙ read_minute [] n tt k h
+  of_digits l (b ∷ ds, r) d k = read_minute (b ∷ ds) n d k h
 
   pub minute : (l : List ℕ) → length l ≤ 255 → in_minute (number n ⊕ (fraction l).0) ≡ true
   unfolding fraction
-  minute [] k = of-digits [] ([], []) tt (omega arith)
-  minute (b ∷ l) k = let r = run_digits l in go (is "." b) (of-digits (b ∷ l) (run l) r.0 (omega (arith, r.1)))
+  minute [] k = of_digits [] ([], []) tt (omega arith)
+  minute (b ∷ l) k = let r = run_digits l in go (is "." b) (of_digits (b ∷ l) (run l) r.0 (omega (arith, r.1)))
     where
       go : (t : Bool) → in_minute (number n ⊕ (fraction_in (b ∷ l) (run l)).0) ≡ true → in_minute (number n ⊕ (if t then fraction_in (b ∷ l) (run l) else (number 0, b ∷ l)).0) ≡ true
       go true e = e
-      go false e = of-digits (b ∷ l) ([], []) tt (omega arith)
+      go false e = of_digits (b ∷ l) ([], []) tt (omega arith)

@@ -19,16 +19,16 @@ use Rattle.text.specs.Places.{begins, gap}
 use Rattle.text.proofs.Bytes.{digit_bounds, not_space}
 use Rattle.calendar.proofs.Counting.{month_day}
 use Rattle.real.proofs.Run.{Digits}
-use Rattle.real.proofs.Seconds.{fraction_none, exact-ms}
+use Rattle.real.proofs.Seconds.{fraction_none, exact_ms}
 use Rattle.moment.proofs.Steps.{in_time, summed, zoneless, count_dated}
 use Rattle.reading.specs.Readers.{hour_minute, year_month_day}
 use Rattle.reading.specs.Written.{Stamp, pointed, written, Full, instant_of, fields_of}
 use Rattle.reading.proofs.Places.{both, Stops, digits_places, skip_run, skip_all, run_digits}
-use Rattle.reading.proofs.Zones.{no_zone_lem, hour-and-minute}
+use Rattle.reading.proofs.Zones.{no_zone_lem, hour_and_minute}
 use Rattle.reading.proofs.Fractions.{no_point}
 use Rattle.reading.proofs.Times.{time_of_lem}
-use Rattle.reading.proofs.Dates.{time-form, time_follows, ymd, date-and-time, no_minus}
-use Rattle.reading.proofs.Values.{is-date}
+use Rattle.reading.proofs.Dates.{time_form_lem, time_follows, ymd, date_and_time, no_minus}
+use Rattle.reading.proofs.Values.{is_date}
 
 -- ---- the byte that a number begins with
 first_digit : (x : ℕ) → x ≤ 9 → (gap (48 + x) ≡ false) × (eqb 45 (48 + x) ≡ false)
@@ -84,9 +84,9 @@ unfolding places
 date_begins t = (first_digit (t.year / 1000 % 10) (omega arith)).1
 
 module _ (t : Stamp) (k : ℕ) (F : Full t k) where
-  second-read : seconds (58 ∷ from_second t) ≡ got (number t.second ⊕ fraction_of t.fraction, t.blanks)
+  second_read : seconds (58 ∷ from_second t) ≡ got (number t.second ⊕ fraction_of t.fraction, t.blanks)
   unfolding seconds seconds_in
-  second-read = rw (digits_places 2 0 59 t.second (pointed t.fraction ++ t.blanks) (omega (arith, F.seconds)) (omega arith) F.seconds, fraction_written t.fraction t.blanks F.digits F.spaces)
+  second_read = rw (digits_places 2 0 59 t.second (pointed t.fraction ++ t.blanks) (omega (arith, F.seconds)) (omega arith) F.seconds, fraction_written t.fraction t.blanks F.digits F.spaces)
 
   abbrev time_of : Time
   time_of = record { hour = t.hour; minute = t.minute; second = number t.second ⊕ fraction_of t.fraction; zone = no_zone; utc = false }
@@ -94,8 +94,8 @@ module _ (t : Stamp) (k : ℕ) (F : Full t k) where
   time_read : time (from_time t) ≡ got time_of
   time_read =
       time_of_lem (from_time t) t.hour t.minute (58 ∷ from_second t)
-      (hour-and-minute 24 (from_time t) t.hour _ (digits_places 2 0 24 t.hour _ (omega (arith, F.hours)) (omega arith) (omega (arith, F.hours))) _ refl t.minute _ (digits_places 2 0 59 t.minute _ (omega (arith, F.minutes)) (omega arith) F.minutes))
-      _ t.blanks second-read no_zone false (ap zone_in (skip_all space t.blanks F.spaces) ∙ no_zone_lem)
+      (hour_and_minute 24 (from_time t) t.hour _ (digits_places 2 0 24 t.hour _ (omega (arith, F.hours)) (omega arith) (omega (arith, F.hours))) _ refl t.minute _ (digits_places 2 0 59 t.minute _ (omega (arith, F.minutes)) (omega arith) F.minutes))
+      _ t.blanks second_read no_zone false (ap zone_in (skip_all space t.blanks F.spaces) ∙ no_zone_lem)
 
   ymd_read : year_month_day 1 12 31 (from_date t) ≡ got (t.year, t.month, t.day, t.gap ++ from_time t)
   ymd_read =
@@ -105,22 +105,22 @@ module _ (t : Stamp) (k : ℕ) (F : Full t k) where
       t.day _ (digits_places 2 1 31 t.day _ (omega arith) e.day_low e.day_high)
 
   after_read : time_after (skip gap (t.gap ++ from_time t)) ≡ got (timed time_of)
-  after_read = ap time_after (skip_run gap t.gap (from_time t) F.gaps (time_begins t).0) ∙ time_follows (from_time t) (time_begins t).1 ∙ time-form (from_time t) time_of time_read
+  after_read = ap time_after (skip_run gap t.gap (from_time t) F.gaps (time_begins t).0) ∙ time_follows (from_time t) (time_begins t).1 ∙ time_form_lem (from_time t) time_of time_read
 
   -- a day that exists lies past no month's end
-  not-over : past_end (fields_of t) ≡ fields_of t
+  not_over : past_end (fields_of t) ≡ fields_of t
   unfolding past_end
-  not-over = let e : t.day - month_length (year t.year) t.month ≡ 0 = omega (arith, F.exists.day_high) in rw e
+  not_over = let e : t.day - month_length (year t.year) t.month ≡ 0 = omega (arith, F.exists.day_high) in rw e
 
   -- the fields as they are written
   pub reads : (clock : ℕ) → text_value clock (written t) ≡ got (fields_of t)
   reads clock =
       ap (text_value clock) (from_start t)
-      ∙ is-date clock (from_date t) (fields_of t) (no_minus (from_date t) (date_begins t) ∙ date-and-time year (from_date t) t.year t.month t.day _ ymd_read (timed time_of) after_read ∙ ap (λ (p : Moment). got (settled p)) not-over)
+      ∙ is_date clock (from_date t) (fields_of t) (no_minus (from_date t) (date_begins t) ∙ date_and_time year (from_date t) t.year t.month t.day _ ymd_read (timed time_of) after_read ∙ ap (λ (p : Moment). got (settled p)) not_over)
 
   -- and their sum
   pub time_ms_lem : time_ms t.hour t.minute (number t.second ⊕ fraction_of t.fraction) ≡ t.hour * 3600000 + t.minute * 60000 + (1000 * t.second + k)
-  time_ms_lem = ap (λ (n : ℕ). t.hour * 3600000 + t.minute * 60000 + n) (exact-ms t.fraction t.second (digits_of t.fraction F.digits) F.few F.seconds k F.millis F.value)
+  time_ms_lem = ap (λ (n : ℕ). t.hour * 3600000 + t.minute * 60000 + n) (exact_ms t.fraction t.second (digits_of t.fraction F.digits) F.few F.seconds k F.millis F.value)
 
   pub counts : count_ms (fields_of t) ≡ counted (fields_of t) (instant_of t k)
   counts =

@@ -45,11 +45,11 @@ at_byte s at h = rw add-one (drop-cons s at 0 h)
 
 -- a byte that is read, against a character
 module _ (c : Char) (s : List ℕ) (at : ℕ) (h : at < length s) where
-  pub byte-is : get_or s at 0 ≡ code c → byte c (drop at s) ≡ got (drop (at + 1) s)
-  byte-is e = rw (at_byte s at h, eq-eqb (code c) (get_or s at 0) (sym e))
+  pub byte_is : get_or s at 0 ≡ code c → byte c (drop at s) ≡ got (drop (at + 1) s)
+  byte_is e = rw (at_byte s at h, eq-eqb (code c) (get_or s at 0) (sym e))
 
-  pub byte-not : get_or s at 0 ≢ code c → byte c (drop at s) ≡ other
-  byte-not e = rw (at_byte s at h, ne_eqb (code c) (get_or s at 0) (λ k. e (sym k)))
+  pub byte_not : get_or s at 0 ≢ code c → byte c (drop at s) ≡ other
+  byte_not e = rw (at_byte s at h, ne_eqb (code c) (get_or s at 0) (λ k. e (sym k)))
 
 -- ---- the end
 pub ended_at : {A : Type 0} (s : List ℕ) (at : ℕ) (a : A) → length s ≤ at → ended (drop at s) a ≡ got a
@@ -60,9 +60,9 @@ not_ended s at a h = rw (drop-cons s at 0 h)
 
 -- ---- where what follows does not read
 module _ {B : Type 0} where
-  pub char-then : (c : Char) (l : List ℕ) (f : List ℕ → Read B) → f (drop 1 l) ≡ other → ◌>>=◌ (byte c l) f ≡ other
-  char-then c [] f h = refl
-  char-then c (b ∷ l) f h = go (is c b)
+  pub char_then : (c : Char) (l : List ℕ) (f : List ℕ → Read B) → f (drop 1 l) ≡ other → ◌>>=◌ (byte c l) f ≡ other
+  char_then c [] f h = refl
+  char_then c (b ∷ l) f h = go (is c b)
     where
       go : (t : Bool) → ◌>>=◌ (only_if t l) f ≡ other
       go true = h
@@ -78,9 +78,9 @@ module _ {B : Type 0} where
       go true e = e
       go false e = refl
 
-  pub digits-then : (n lo hi : ℕ) (l : List ℕ) (f : ℕ × List ℕ → Read B) → ((x : ℕ) → f (x, drop n l) ≡ other) → ◌>>=◌ (digits n lo hi l) f ≡ other
+  pub digits_then : (n lo hi : ℕ) (l : List ℕ) (f : ℕ × List ℕ → Read B) → ((x : ℕ) → f (x, drop n l) ≡ other) → ◌>>=◌ (digits n lo hi l) f ≡ other
   unfolding digits
-  digits-then n lo hi l f h = then_then (digits_on n 0 l) _ f ∙ on_then n 0 l _ (λ x. go x (leb lo x && leb x hi))
+  digits_then n lo hi l f h = then_then (digits_on n 0 l) _ f ∙ on_then n 0 l _ (λ x. go x (leb lo x && leb x hi))
     where
       go : (x : ℕ) (t : Bool) → ◌>>=◌ (only_if t (x, drop n l)) f ≡ other
       go x true = h x

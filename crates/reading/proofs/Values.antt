@@ -27,27 +27,27 @@ module _ (s : List ℕ) where
 
 -- ---- `subsec` or `subsecond`
 module _ (clock : ℕ) (s : List ℕ) where
-  pub is-subsec : (word (ascii "subsec") s || word (ascii "subsecond") s) ≡ true → subsec_value clock s ≡ got (now clock (set_subsec blank true))
-  is-subsec h = rw h
+  pub is_subsec : (word (ascii "subsec") s || word (ascii "subsecond") s) ≡ true → subsec_value clock s ≡ got (now clock (set_subsec blank true))
+  is_subsec h = rw h
 
-  pub is-nothing : (word (ascii "subsec") s || word (ascii "subsecond") s) ≡ false → subsec_value clock s ≡ refuse Refusal.Null
-  is-nothing h = rw h
+  pub is_nothing : (word (ascii "subsec") s || word (ascii "subsecond") s) ≡ false → subsec_value clock s ≡ refuse Refusal.Null
+  is_nothing h = rw h
 
 -- ---- one form after another
 module _ (clock : ℕ) (s : List ℕ) where
-  pub is-date : (p : Moment) → date_form s ≡ got p → text_value clock s ≡ got p
+  pub is_date : (p : Moment) → date_form s ≡ got p → text_value clock s ≡ got p
   unfolding text_value
-  is-date p h = rw h
+  is_date p h = rw h
 
   module _ (h : date_form s ≡ other) where
-    pub is-time : (p : Moment) → time_form s ≡ got p → text_value clock s ≡ got p
+    pub is_time : (p : Moment) → time_form s ≡ got p → text_value clock s ≡ got p
     unfolding text_value
-    is-time p k = rw (h, k)
+    is_time p k = rw (h, k)
 
     module _ (k : time_form s ≡ other) where
-      pub is-now : word (ascii "now") s ≡ true → text_value clock s ≡ got (now clock blank)
+      pub is_now : word (ascii "now") s ≡ true → text_value clock s ≡ got (now clock blank)
       unfolding text_value
-      is-now e = rw (h, k, e)
+      is_now e = rw (h, k, e)
 
       pub is_last : word (ascii "now") s ≡ false → text_value clock s ≡ (number_form s or subsec_value clock s)
       unfolding text_value

@@ -51,8 +51,8 @@ module _ (x : Float) (fit : T (fits binary64 x)) (fin-x : T (finite x)) where
       of_fields_lem (leb (2 ^ 63) b) (b % 2 ^ 63 / 2 ^ 52) (b % 2 ^ 52) x fin-x (sym (of_bits-to_bits binary64 x fit) ∙ of_bits_is b) ∙ ap (λ (t : ℕ). lead (b % 2 ^ 63 / 2 ^ 52) t * den x) (sym below)
 
   -- a size below 2 ^ 53 has an exponent's field up to 1075
-  pub field-le : num x < 2 ^ 53 * den x → bits / 2 ^ 52 ≤ 1075
-  field-le h = go (bits / 2 ^ 52) (lt_of_mul-lt-mul_right (den x) (lt_of_le_of_lt (le_of_eq (sym decoded)) (less (num x) (2 ^ 1074) (pow_pos 1074) h)))
+  pub field_le : num x < 2 ^ 53 * den x → bits / 2 ^ 52 ≤ 1075
+  field_le h = go (bits / 2 ^ 52) (lt_of_mul-lt-mul_right (den x) (lt_of_le_of_lt (le_of_eq (sym decoded)) (less (num x) (2 ^ 1074) (pow_pos 1074) h)))
     where
       less : (n L : ℕ) → 0 < L → n < 2 ^ 53 * den x → n * L < 2 ^ 53 * L * den x
       less n L P h = lt_of_lt_of_le (mul-lt-mul_of_pos_right h P) (le_of_eq (mul_right_comm (2 ^ 53) (den x) L))
@@ -61,17 +61,17 @@ module _ (x : Float) (fit : T (fits binary64 x)) (fin-x : T (finite x)) where
       go zero l = lit≤ tt
       go (suc e) l = lt_of_not-le (λ (g : 1075 ≤ e). not-le_of_lt l (mul-le-mul {n₁ = 2 ^ 52} {m₁ = 2 ^ 1075} {n₂ = 2 ^ 52 + bits % 2 ^ 52} {m₂ = 2 ^ e} (le-add_right (2 ^ 52) (bits % 2 ^ 52)) (pow_mono g)))
 
-  pub parts-normal : 0 < bits / 2 ^ 52 → bits / 2 ^ 52 ≤ 1075 → PartsOf x (2 ^ 52 + bits % 2 ^ 52) (1075 - bits / 2 ^ 52)
-  parts-normal p h = record { is = go (bits / 2 ^ 52) decoded p h; small = omega arith }
+  pub parts_normal : 0 < bits / 2 ^ 52 → bits / 2 ^ 52 ≤ 1075 → PartsOf x (2 ^ 52 + bits % 2 ^ 52) (1075 - bits / 2 ^ 52)
+  parts_normal p h = record { is = go (bits / 2 ^ 52) decoded p h; small = omega arith }
     where
-      up-again : (e : ℕ) → suc e ≤ 1075 → 1075 - suc e + e ≡ 1074
-      up-again e h = omega arith
+      up_again : (e : ℕ) → suc e ≤ 1075 → 1075 - suc e + e ≡ 1074
+      up_again e h = omega arith
 
       go : (e : ℕ) → Units x (lead e (bits % 2 ^ 52)) → 0 < e → e ≤ 1075 → num x * 2 ^ (1075 - e) ≡ (2 ^ 52 + bits % 2 ^ 52) * den x
       go zero d p h = absurd (omega arith)
       go (suc e) d p h =
           eq_of_mul-eq-mul_right (2 ^ e) (pow_pos e) (num x * 2 ^ (1075 - suc e)) ((2 ^ 52 + bits % 2 ^ 52) * den x)
-          (mul_assoc (num x) (2 ^ (1075 - suc e)) (2 ^ e) ∙ ap (λ (z : ℕ). num x * z) (sym (pow-add 2 (1075 - suc e) e) ∙ ap (λ (z : ℕ). 2 ^ z) (up-again e h)) ∙ d ∙ mul_right_comm (2 ^ 52 + bits % 2 ^ 52) (2 ^ e) (den x))
+          (mul_assoc (num x) (2 ^ (1075 - suc e)) (2 ^ e) ∙ ap (λ (z : ℕ). num x * z) (sym (pow-add 2 (1075 - suc e) e) ∙ ap (λ (z : ℕ). 2 ^ z) (up_again e h)) ∙ d ∙ mul_right_comm (2 ^ 52 + bits % 2 ^ 52) (2 ^ e) (den x))
 
-  pub parts-small : bits / 2 ^ 52 ≡ 0 → PartsOf x (bits % 2 ^ 52) 1074
-  parts-small z = record { is = decoded ∙ ap (λ (e : ℕ). lead e (bits % 2 ^ 52) * den x) z; small = omega arith }
+  pub parts_small : bits / 2 ^ 52 ≡ 0 → PartsOf x (bits % 2 ^ 52) 1074
+  parts_small z = record { is = decoded ∙ ap (λ (e : ℕ). lead e (bits % 2 ^ 52) * den x) z; small = omega arith }

@@ -264,7 +264,7 @@ quotient_near x y v s k em es a b he hs sp vs kk e =
     let (G, r) = divided x y v s em es a b he hs sp vs in
     let nu = near_up (r.units * gs) (gm * L) (gs * L) (k * gs * L) r.above (scaled_up L gm (k * gs) gs cu) in
     let nd = near_down (r.units * gs) (gm * L) (gs * L) (k * gs * L) r.below (scaled_down L gm (k * gs) gs cd) in
-    record { units = r.units; is = r.is; above = cancel-up L r.units gs k G nu; below = cancel-down L r.units gs k G nd }
+    record { units = r.units; is = r.is; above = cancel_up L r.units gs k G nu; below = cancel_down L r.units gs k G nd }
   where
     times : (k Y gs : ℕ) → Y * 2 ^ 23 ≤ gs * 2 ^ 23 + Y → k * Y * 2 ^ 23 ≤ k * gs * 2 ^ 23 + k * Y
     times k Y gs h = le_trans (le_of_eq (simp (mul_assoc))) (le_trans (mul-le-mul_left k h) (le_of_eq (simp (mul-add, mul_assoc))))
@@ -272,11 +272,11 @@ quotient_near x y v s k em es a b he hs sp vs kk e =
     times' : (k Y gs : ℕ) → gs * 2 ^ 23 ≤ Y * 2 ^ 23 + Y → k * gs * 2 ^ 23 ≤ k * Y * 2 ^ 23 + k * Y
     times' k Y gs h = le_trans (le_of_eq (simp (mul_assoc))) (le_trans (mul-le-mul_left k h) (le_of_eq (simp (mul-add, mul_assoc))))
 
-    cancel-up : (L g gs k : ℕ) → 0 < gs → g * gs * 1000 * 2 ^ 14 ≤ k * gs * L * 2 ^ 14 + 1000 * (gs * L) → g * 1000 * 2 ^ 14 ≤ k * L * 2 ^ 14 + 1000 * L
-    cancel-up L g gs k p h = le_of_mul-le-mul_right (le_trans (le_of_eq (simp (mul_assoc, mul_comm, mul_left_comm))) (le_trans h (le_of_eq (simp (add-mul, mul_assoc, mul_comm, mul_left_comm))))) p
+    cancel_up : (L g gs k : ℕ) → 0 < gs → g * gs * 1000 * 2 ^ 14 ≤ k * gs * L * 2 ^ 14 + 1000 * (gs * L) → g * 1000 * 2 ^ 14 ≤ k * L * 2 ^ 14 + 1000 * L
+    cancel_up L g gs k p h = le_of_mul-le-mul_right (le_trans (le_of_eq (simp (mul_assoc, mul_comm, mul_left_comm))) (le_trans h (le_of_eq (simp (add-mul, mul_assoc, mul_comm, mul_left_comm))))) p
 
-    cancel-down : (L g gs k : ℕ) → 0 < gs → k * gs * L * 2 ^ 14 ≤ g * gs * 1000 * 2 ^ 14 + 1000 * (gs * L) → k * L * 2 ^ 14 ≤ g * 1000 * 2 ^ 14 + 1000 * L
-    cancel-down L g gs k p h = le_of_mul-le-mul_right (le_trans (le_of_eq (simp (mul_assoc, mul_comm, mul_left_comm))) (le_trans h (le_of_eq (simp (add-mul, mul_assoc, mul_comm, mul_left_comm))))) p
+    cancel_down : (L g gs k : ℕ) → 0 < gs → k * gs * L * 2 ^ 14 ≤ g * gs * 1000 * 2 ^ 14 + 1000 * (gs * L) → k * L * 2 ^ 14 ≤ g * 1000 * 2 ^ 14 + 1000 * L
+    cancel_down L g gs k p h = le_of_mul-le-mul_right (le_trans (le_of_eq (simp (mul_assoc, mul_comm, mul_left_comm))) (le_trans h (le_of_eq (simp (add-mul, mul_assoc, mul_comm, mul_left_comm))))) p
 
 -- ---- "above 0.999 becomes 0.999"
 abbrev most : Float
@@ -355,22 +355,22 @@ module _ (ds : List ℕ) (D : Digits ds) (h : length ds ≤ 255) where
   sum_at_lem : At sum (value 0 ds) (4 * n) × (value 0 ds < 10 ^ n)
   sum_at_lem = fold_at ds (number 0) 0 0 n D none_at (lit≤ tt) (zero-add n) h
 
-  pub value-lt : value 0 ds < 10 ^ n
-  value-lt = sum_at_lem.1
+  pub value_lt : value 0 ds < 10 ^ n
+  value_lt = sum_at_lem.1
 
-  by-at : At by (10 ^ n) (2 * n)
-  by-at = scale_at ds (number 1) 0 n one_at (zero-add n) h
+  by_at : At by (10 ^ n) (2 * n)
+  by_at = scale_at ds (number 1) 0 n one_at (zero-add n) h
 
   -- digits that write k whole milliseconds
-  pub fraction-near : (k : ℕ) → k ≤ 999 → 1000 * value 0 ds ≡ k * 10 ^ n → Nearly (fraction_of ds) k 1
+  pub fraction_near : (k : ℕ) → k ≤ 999 → 1000 * value 0 ds ≡ k * 10 ^ n → Nearly (fraction_of ds) k 1
   unfolding fraction_of capped
-  fraction-near k kk e =
+  fraction_near k kk e =
       cap_near (sum ⊘ by) k kk
-      (quotient_near sum by (value 0 ds) (10 ^ n) k (4 * n) (2 * n) sum_at_lem.0 by-at (few_parts 4 n (lit≤ tt) h) (few_parts 2 n (lit≤ tt) h) (one-le-pow n 10 (lit≤ tt)) (le_of_lt sum_at_lem.1) (le_trans kk (lit≤ tt)) e)
+      (quotient_near sum by (value 0 ds) (10 ^ n) k (4 * n) (2 * n) sum_at_lem.0 by_at (few_parts 4 n (lit≤ tt) h) (few_parts 2 n (lit≤ tt) h) (one-le-pow n 10 (lit≤ tt)) (le_of_lt sum_at_lem.1) (le_trans kk (lit≤ tt)) e)
 
   -- any digits: finite, from 0 to 0.999
-  pub fraction-within : Plain (fraction_of ds) × Within (fraction_of ds) (ratio 999 1000)
+  pub fraction_within : Plain (fraction_of ds) × Within (fraction_of ds) (ratio 999 1000)
   unfolding fraction_of capped
-  fraction-within =
-      let q = (divided sum by (value 0 ds) (10 ^ n) (4 * n) (2 * n) sum_at_lem.0 by-at (few_parts 4 n (lit≤ tt) h) (few_parts 2 n (lit≤ tt) h) (one-le-pow n 10 (lit≤ tt)) (le_of_lt sum_at_lem.1)).1 in
+  fraction_within =
+      let q = (divided sum by (value 0 ds) (10 ^ n) (4 * n) (2 * n) sum_at_lem.0 by_at (few_parts 4 n (lit≤ tt) h) (few_parts 2 n (lit≤ tt) h) (one-le-pow n 10 (lit≤ tt)) (le_of_lt sum_at_lem.1)).1 in
       cap_within (sum ⊘ by) (plain_val (sum ⊘ by) q.units (2 ^ 1074) q.is)

@@ -50,18 +50,18 @@ module _ (L kL g : ℕ) (P : 0 < L) where
   sum_lt : (sL : ℕ) → sL ≤ 59 * L → kL ≤ 999 * L → g * 1000 * 2 ^ 14 ≤ kL * 2 ^ 14 + 1 * 1000 * L → sL + g < L * 2 ^ 40
   sum_lt sL a b c = omega arith
 
-  sum-up : (sL h : ℕ) → h * 2 ^ 14 ≤ (sL + g) * 2 ^ 14 + L → g * 1000 * 2 ^ 14 ≤ kL * 2 ^ 14 + 1 * 1000 * L → h * 1000 * 2 ^ 14 ≤ (1000 * sL + kL) * 2 ^ 14 + 2 * 1000 * L
-  sum-up sL h a b = omega arith
+  sum_up : (sL h : ℕ) → h * 2 ^ 14 ≤ (sL + g) * 2 ^ 14 + L → g * 1000 * 2 ^ 14 ≤ kL * 2 ^ 14 + 1 * 1000 * L → h * 1000 * 2 ^ 14 ≤ (1000 * sL + kL) * 2 ^ 14 + 2 * 1000 * L
+  sum_up sL h a b = omega arith
 
-  sum-down : (sL h : ℕ) → (sL + g) * 2 ^ 14 ≤ h * 2 ^ 14 + L → kL * 2 ^ 14 ≤ g * 1000 * 2 ^ 14 + 1 * 1000 * L → (1000 * sL + kL) * 2 ^ 14 ≤ h * 1000 * 2 ^ 14 + 2 * 1000 * L
-  sum-down sL h a b = omega arith
+  sum_down : (sL h : ℕ) → (sL + g) * 2 ^ 14 ≤ h * 2 ^ 14 + L → kL * 2 ^ 14 ≤ g * 1000 * 2 ^ 14 + 1 * 1000 * L → (1000 * sL + kL) * 2 ^ 14 ≤ h * 1000 * 2 ^ 14 + 2 * 1000 * L
+  sum_down sL h a b = omega arith
 
   -- times 1000, and then plus 0.5: H is 0.5
-  mul-lt : kL ≤ 60000 * L → g * 1000 * 2 ^ 14 ≤ kL * 2 ^ 14 + 2 * 1000 * L → g * 1000 < L * 2 ^ 40
-  mul-lt a b = omega arith
+  mul_lt : kL ≤ 60000 * L → g * 1000 * 2 ^ 14 ≤ kL * 2 ^ 14 + 2 * 1000 * L → g * 1000 < L * 2 ^ 40
+  mul_lt a b = omega arith
 
-  add-lt : (H h : ℕ) → L ≡ H * 2 → kL ≤ 60000 * L → g * 1000 * 2 ^ 14 ≤ kL * 2 ^ 14 + 2 * 1000 * L → h * 2 ^ 14 ≤ g * 1000 * 2 ^ 14 + L → h + H < L * 2 ^ 40
-  add-lt H h e a b c = omega arith
+  add_lt : (H h : ℕ) → L ≡ H * 2 → kL ≤ 60000 * L → g * 1000 * 2 ^ 14 ≤ kL * 2 ^ 14 + 2 * 1000 * L → h * 2 ^ 14 ≤ g * 1000 * 2 ^ 14 + L → h + H < L * 2 ^ 40
+  add_lt H h e a b c = omega arith
 
   ends : (H h i : ℕ) → L ≡ H * 2
       → g * 1000 * 2 ^ 14 ≤ kL * 2 ^ 14 + 2 * 1000 * L → kL * 2 ^ 14 ≤ g * 1000 * 2 ^ 14 + 2 * 1000 * L
@@ -70,8 +70,8 @@ module _ (L kL g : ℕ) (P : 0 < L) where
       → (kL ≤ i) × (i < kL + L)
   ends H h i e a b c d f j = (omega arith, omega arith)
 
-  in-64 : (i : ℕ) → kL ≤ 60000 * L → i < kL + L → i < 2 ^ 64 * L
-  in-64 i a b = omega arith
+  in_64 : (i : ℕ) → kL ≤ 60000 * L → i < kL + L → i < 2 ^ 64 * L
+  in_64 i a b = omega arith
 
 joined : (s k L : ℕ) → 1000 * (s * L) + k * L ≡ (1000 * s + k) * L
 joined s k L = ap (λ (z : ℕ). z + k * L) (sym (mul_assoc 1000 s L)) ∙ sym (add-mul (1000 * s) k L)
@@ -85,8 +85,8 @@ nearly_sum s k r hs hk n =
     record {
       units = m.units;
       is = m.is;
-      above = subst (λ (z : ℕ). m.units * 1000 * 2 ^ 14 ≤ z * 2 ^ 14 + 2 * 1000 * L) (joined s k L) (sum-up L (k * L) n.units P (s * L) m.units m.above n.above);
-      below = subst (λ (z : ℕ). z * 2 ^ 14 ≤ m.units * 1000 * 2 ^ 14 + 2 * 1000 * L) (joined s k L) (sum-down L (k * L) n.units P (s * L) m.units m.below n.below);
+      above = subst (λ (z : ℕ). m.units * 1000 * 2 ^ 14 ≤ z * 2 ^ 14 + 2 * 1000 * L) (joined s k L) (sum_up L (k * L) n.units P (s * L) m.units m.above n.above);
+      below = subst (λ (z : ℕ). z * 2 ^ 14 ≤ m.units * 1000 * 2 ^ 14 + 2 * 1000 * L) (joined s k L) (sum_down L (k * L) n.units P (s * L) m.units m.below n.below);
     }
 
 pub nearly_ms : (x : Float) (k : ℕ) → k ≤ 60000 → Nearly x k 2 → seconds_ms x ≡ k
@@ -96,10 +96,10 @@ nearly_ms x k hk n =
     let P : 0 < L = pow_pos 1074 in
     let g = n.units in
     let kL : k * L ≤ 60000 * L = mul-le-mul_right L hk in
-    let m = mul_moved binary64 x (number 1000) g 1000 14 40 refl (lit≤ tt) (mul-lt L (k * L) g P kL n.above) n.is (number_val 1000 (lit≤ tt)) in
-    let a = add_moved binary64 (x ⊗ number 1000) half m.units H 14 40 refl (lit≤ tt) (add-lt L (k * L) g P H m.units refl kL n.above m.above) m.is half_val in
+    let m = mul_moved binary64 x (number 1000) g 1000 14 40 refl (lit≤ tt) (mul_lt L (k * L) g P kL n.above) n.is (number_val 1000 (lit≤ tt)) in
+    let a = add_moved binary64 (x ⊗ number 1000) half m.units H 14 40 refl (lit≤ tt) (add_lt L (k * L) g P H m.units refl kL n.above m.above) m.is half_val in
     let e = ends L (k * L) g P H m.units a.units refl n.above n.below m.above m.below a.above a.below in
-    cut_at (x ⊗ number 1000 ⊕ half) a.units L P (in-64 L (k * L) g P a.units kL e.1) a.is ∙ quotient a.units k L P e.0 e.1
+    cut_at (x ⊗ number 1000 ⊕ half) a.units L P (in_64 L (k * L) g P a.units kL e.1) a.is ∙ quotient a.units k L P e.0 e.1
 
 -- ---- whole milliseconds as seconds, and back
 pub nearly_quotient : (k : ℕ) → k ≤ 60000 → Nearly (number k ⊘ number 1000) k 2

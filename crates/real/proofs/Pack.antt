@@ -145,10 +145,10 @@ kept_11 n C M R st P l en ed y nn =
     go : (a : Bool) → (T a → 1024 < M % 2048) → (T (not a) → M % 2048 ≤ 1024) → (b : Bool) → (T b → M % 2048 < 1024) → (T (not b) → 1024 ≤ M % 2048) → (s : Bool) → (T s → 0 < R) → (T (not s) → R ≡ 0)
         → nearest (M / 2048) (compare ((M % 2048 * C + R) * 2) (C * 2048)) ≡ M / 2048 + cond a 1 (cond b 0 (cond s 1 (M / 2048 % 2)))
     go true f g b h k s i j = near_gt (M / 2048) ((M % 2048 * C + R) * 2) (C * 2048) (above_half C R (M % 2048 * C) P (mul-le-mul_right C (f tt))) ∙ add_one_is (M / 2048)
-    go false f g true h k s i j = near_lt (M / 2048) ((M % 2048 * C + R) * 2) (C * 2048) (below_half (M % 2048) C R (M % 2048 * C) (mul-le-mul_right C (pred-le (M % 2048) (h tt))) l) ∙ add_none (M / 2048)
+    go false f g true h k s i j = near_lt (M / 2048) ((M % 2048 * C + R) * 2) (C * 2048) (below_half (M % 2048) C R (M % 2048 * C) (mul-le-mul_right C (pred_le (M % 2048) (h tt))) l) ∙ add_none (M / 2048)
       where
-        pred-le : (x : ℕ) → x < 1024 → x ≤ 1023
-        pred-le x h = omega arith
+        pred_le : (x : ℕ) → x < 1024 → x ≤ 1023
+        pred_le x h = omega arith
     go false f g false h k true i j =
         near_gt (M / 2048) ((M % 2048 * C + R) * 2) (C * 2048) (past_half C R (M % 2048 * C) (ap (λ (x : ℕ). x * C) (le_antisymm (k tt) (g tt))) (i tt)) ∙ add_one_is (M / 2048)
     go false f g false h k false i j =

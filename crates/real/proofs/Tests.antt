@@ -113,10 +113,10 @@ between (fin false m e) (plain k f) (plain n d) g h =
     (record { left = finite false m e; right = plain n d; le = test_le (m * up e * down d) (n * up d * down e) h }, test_le (k * up f * down e) (m * up e * down f) g)
 
 pub span_within : {low l : Float} (x : Float) → Plain low → Plain l → within low x l ≡ true → Within x l × (num low * den x ≤ num x * den low)
-span_within {low} {l} x p q h = between x p q (and_left (le low x) (lt x l) h) (lt-le (and_right (le low x) (lt x l) h))
+span_within {low} {l} x p q h = between x p q (and_left (le low x) (lt x l) h) (lt_le (and_right (le low x) (lt x l) h))
   where
-    lt-le : lt x l ≡ true → le x l ≡ true
-    lt-le h = unfold le in rw h
+    lt_le : lt x l ≡ true → le x l ≡ true
+    lt_le h = unfold le in rw h
 
 -- ---- from -k up to l, for a k up to l
 pub around : {k l : Float} (x : Float) → Plain k → Within k l → le (neg k) x ≡ true → le x l ≡ true → Within x l

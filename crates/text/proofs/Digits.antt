@@ -22,13 +22,13 @@ use Rattle.text.proofs.Bytes.{digit_byte}
 
 -- ---- one step at a place
 module _ (n v : ℕ) (s : List ℕ) (i : ℕ) (h : i < length s) where
-  pub digit-on : is_digit (get_or s i 0) ≡ true → digits_on (suc n) v (drop i s) ≡ digits_on n (v * 10 + (get_or s i 0 - 48)) (drop (i + 1) s)
+  pub digit_on : is_digit (get_or s i 0) ≡ true → digits_on (suc n) v (drop i s) ≡ digits_on n (v * 10 + (get_or s i 0 - 48)) (drop (i + 1) s)
   unfolding digits_on
-  digit-on e = rw (add-one, drop-cons s i 0 h, e)
+  digit_on e = rw (add-one, drop-cons s i 0 h, e)
 
-  pub digit-stop : is_digit (get_or s i 0) ≡ false → digits_on (suc n) v (drop i s) ≡ other
+  pub digit_stop : is_digit (get_or s i 0) ≡ false → digits_on (suc n) v (drop i s) ≡ other
   unfolding digits_on
-  digit-stop e = rw (drop-cons s i 0 h, e)
+  digit_stop e = rw (drop-cons s i 0 h, e)
 
 -- ---- as a whole
 either_other : {A : Type 0} (t : Bool) → ◌≡◌ {A = Read A} (if t then other else other) other
@@ -58,7 +58,7 @@ unfolding digits_on
 two_at s at h a b =
     let p : at + 1 + 1 ≡ at + 2 = omega arith in
     let q : (0 * 10 + (get_or s at 0 - 48)) * 10 ≡ (get_or s at 0 - 48) * 10 = omega arith in
-    digit-on 1 0 s at (omega arith) a ∙ rw (digit-on 0 (0 * 10 + (get_or s at 0 - 48)) s (at + 1) (omega arith) b, p, q)
+    digit_on 1 0 s at (omega arith) a ∙ rw (digit_on 0 (0 * 10 + (get_or s at 0 - 48)) s (at + 1) (omega arith) b, p, q)
 
 -- ---- digits after digits
 abbrev pub adding : ℕ → ℕ × List ℕ → Read (ℕ × List ℕ)
@@ -94,15 +94,15 @@ digits_on-join (suc n) m v (b ∷ l) = rw (suc-add, digits_on-join n m (v * 10 +
     go false r = refl
 
 module _ (l : List ℕ) where
-  pub four-other : digits_on 2 0 l ≡ other → digits_on 4 0 l ≡ other
-  four-other h = digits_on-join 2 2 0 l ∙ rw h
+  pub four_other : digits_on 2 0 l ≡ other → digits_on 4 0 l ≡ other
+  four_other h = digits_on-join 2 2 0 l ∙ rw h
 
   module _ (a : ℕ) (m : List ℕ) (h : digits_on 2 0 l ≡ got (a, m)) where
-    pub four-half : digits_on 2 0 m ≡ other → digits_on 4 0 l ≡ other
-    four-half k = digits_on-join 2 2 0 l ∙ rw (h, k)
+    pub four_half : digits_on 2 0 m ≡ other → digits_on 4 0 l ≡ other
+    four_half k = digits_on-join 2 2 0 l ∙ rw (h, k)
 
-    pub four-got : (b : ℕ) (t : List ℕ) → digits_on 2 0 m ≡ got (b, t) → digits_on 4 0 l ≡ got (a * 100 + b, t)
-    four-got b t k = digits_on-join 2 2 0 l ∙ rw (h, k)
+    pub four_got : (b : ℕ) (t : List ℕ) → digits_on 2 0 m ≡ got (b, t) → digits_on 4 0 l ≡ got (a * 100 + b, t)
+    four_got b t k = digits_on-join 2 2 0 l ∙ rw (h, k)
 
 -- ---- a number that must be lo to hi, after digits that were read
 pub limited_reads : (n lo hi v next after : ℕ) (s l : List ℕ) (r : Found) → r ≡ limited lo hi v next → digits_on n 0 l ≡ got (v, drop next s) → next ≡ after → next ≤ length s → (found s r ≡ digits n lo hi l) × Told lo hi after (length s) r

@@ -21,33 +21,33 @@ unfolding every
 every_past f s i h = rw (drop_of_length-le s h)
 
 module _ (f : ℕ → Bool) (s : List ℕ) (i : ℕ) (h : i < length s) where
-  pub front-on : f (get_or s i 0) ≡ true → front f (drop i s) ≡ get_or s i 0 ∷ front f (drop (i + 1) s)
+  pub front_on : f (get_or s i 0) ≡ true → front f (drop i s) ≡ get_or s i 0 ∷ front f (drop (i + 1) s)
   unfolding front
-  front-on e = rw (add-one, drop-cons s i 0 h, e)
+  front_on e = rw (add-one, drop-cons s i 0 h, e)
 
-  pub front-stop : f (get_or s i 0) ≡ false → front f (drop i s) ≡ []
+  pub front_stop : f (get_or s i 0) ≡ false → front f (drop i s) ≡ []
   unfolding front
-  front-stop e = rw (drop-cons s i 0 h, e)
+  front_stop e = rw (drop-cons s i 0 h, e)
 
-  pub every-on : f (get_or s i 0) ≡ true → every f (drop i s) ≡ every f (drop (i + 1) s)
+  pub every_on : f (get_or s i 0) ≡ true → every f (drop i s) ≡ every f (drop (i + 1) s)
   unfolding every
-  every-on e = rw (add-one, drop-cons s i 0 h, e)
+  every_on e = rw (add-one, drop-cons s i 0 h, e)
 
-  pub every-stop : f (get_or s i 0) ≡ false → every f (drop i s) ≡ false
+  pub every_stop : f (get_or s i 0) ≡ false → every f (drop i s) ≡ false
   unfolding every
-  every-stop e = rw (drop-cons s i 0 h, e)
+  every_stop e = rw (drop-cons s i 0 h, e)
 
 -- ---- a flag that a byte sets which does not pass, found by a loop
 module _ (f : ℕ → Bool) (s : List ℕ) (i : ℕ) where
-  pub flag-past : length s ≤ i → (set : Bool) → every f s ≡ (not set && every f (drop i s)) → every f s ≡ not set
-  flag-past h set e = e ∙ rw (every_past f s i h) (and_true (not set))
+  pub flag_past : length s ≤ i → (set : Bool) → every f s ≡ (not set && every f (drop i s)) → every f s ≡ not set
+  flag_past h set e = e ∙ rw (every_past f s i h) (and_true (not set))
 
   module _ (h : i < length s) (set : Bool) (e : every f s ≡ (not set && every f (drop i s))) where
-    pub flag-on : f (get_or s i 0) ≡ true → every f s ≡ (not set && every f (drop (i + 1) s))
-    flag-on k = e ∙ rw (every-on f s i h k)
+    pub flag_on : f (get_or s i 0) ≡ true → every f s ≡ (not set && every f (drop (i + 1) s))
+    flag_on k = e ∙ rw (every_on f s i h k)
 
-    pub flag-set : f (get_or s i 0) ≡ false → every f s ≡ false
-    flag-set k = e ∙ rw (every-stop f s i h k) (and_false (not set))
+    pub flag_set : f (get_or s i 0) ≡ false → every f s ≡ false
+    flag_set k = e ∙ rw (every_stop f s i h k) (and_false (not set))
 
 -- ---- where a run ends, found by a loop: at one place after another
 pub end_past : (f : ℕ → Bool) (s : List ℕ) (i : ℕ) → length s ≤ i → end_at f s i ≡ i
@@ -55,10 +55,10 @@ end_past f s i h = rw (front_past f s i h) (omega arith)
 
 module _ (f : ℕ → Bool) (s : List ℕ) (i : ℕ) (h : i < length s) where
   pub end_on : f (get_or s i 0) ≡ true → end_at f s i ≡ end_at f s (i + 1)
-  end_on e = rw (front-on f s i h e) (omega arith)
+  end_on e = rw (front_on f s i h e) (omega arith)
 
-  pub end-stop : f (get_or s i 0) ≡ false → end_at f s i ≡ i
-  end-stop e = rw (front-stop f s i h e) (omega arith)
+  pub end_stop : f (get_or s i 0) ≡ false → end_at f s i ≡ i
+  end_stop e = rw (front_stop f s i h e) (omega arith)
 
 -- ---- the run, and what follows it
 pub take_front : (f : ℕ → Bool) (l : List ℕ) → take (length (front f l)) l ≡ front f l
@@ -102,27 +102,27 @@ passed f s at r e =
 
 -- ---- the end of a text
 module _ (f : ℕ → Bool) (b : ℕ) where
-  all-on : f b ≡ true → (l : List ℕ) → every f (l ++ b ∷ []) ≡ every f l
+  all_on : f b ≡ true → (l : List ℕ) → every f (l ++ b ∷ []) ≡ every f l
   unfolding every
-  all-on h [] = rw h
-  all-on h (x ∷ l) = rw (all-on h l)
+  all_on h [] = rw h
+  all_on h (x ∷ l) = rw (all_on h l)
 
-  all-stop : f b ≡ false → (l : List ℕ) → every f (l ++ b ∷ []) ≡ false
+  all_stop : f b ≡ false → (l : List ℕ) → every f (l ++ b ∷ []) ≡ false
   unfolding every
-  all-stop h [] = rw h
-  all-stop h (x ∷ l) = rw (all-stop h l) (and_false (f x))
+  all_stop h [] = rw h
+  all_stop h (x ∷ l) = rw (all_stop h l) (and_false (f x))
 
   -- the last byte is left out
-  pub trim-on : f b ≡ true → (l : List ℕ) → trim_end f (l ++ b ∷ []) ≡ trim_end f l
+  pub trim_on : f b ≡ true → (l : List ℕ) → trim_end f (l ++ b ∷ []) ≡ trim_end f l
   unfolding every trim_end
-  trim-on h [] = rw h
-  trim-on h (x ∷ l) = rw (all-on h l, trim-on h l)
+  trim_on h [] = rw h
+  trim_on h (x ∷ l) = rw (all_on h l, trim_on h l)
 
   -- or it stays, and so does all before it
-  pub trim-stop : f b ≡ false → (l : List ℕ) → trim_end f (l ++ b ∷ []) ≡ l ++ b ∷ []
+  pub trim_stop : f b ≡ false → (l : List ℕ) → trim_end f (l ++ b ∷ []) ≡ l ++ b ∷ []
   unfolding trim_end
-  trim-stop h [] = rw (all-stop h [])
-  trim-stop h (x ∷ l) = rw (all-stop h (x ∷ l), trim-stop h l)
+  trim_stop h [] = rw (all_stop h [])
+  trim_stop h (x ∷ l) = rw (all_stop h (x ∷ l), trim_stop h l)
 
 pub part_all : (s : List ℕ) (from : ℕ) → part s from (length s) ≡ drop from s
 part_all s from = take_all (length s - from) (drop from s) (simp length-drop (omega arith))
@@ -140,7 +140,7 @@ module _ (f : ℕ → Bool) (s : List ℕ) (from end : ℕ) (h : from < end) (k 
       rw (n, take-suc (drop from s) (end - 1 - from) 0 (simp length-drop (omega arith)), get_or-drop from s (end - 1 - from) 0, p)
 
   pub cut_on : f (get_or s (end - 1) 0) ≡ true → trim_end f (part s from end) ≡ trim_end f (part s from (end - 1))
-  cut_on e = rw last (trim-on f _ e (part s from (end - 1)))
+  cut_on e = rw last (trim_on f _ e (part s from (end - 1)))
 
-  pub cut-stop : f (get_or s (end - 1) 0) ≡ false → trim_end f (part s from end) ≡ part s from end
-  cut-stop e = rw last (trim-stop f _ e (part s from (end - 1)))
+  pub cut_stop : f (get_or s (end - 1) 0) ≡ false → trim_end f (part s from end) ≡ part s from end
+  cut_stop e = rw last (trim_stop f _ e (part s from (end - 1)))

@@ -46,10 +46,10 @@ module _ (w s : List ℕ) (i : ℕ) (h : i < length w) (k : i < length s) where
   left_is : length w - i ≡ suc (length w - (i + 1))
   left_is = omega arith
 
-  pub ahead-on : eqb (get_or w i 0) (lower (get_or s i 0)) ≡ true → ahead w s i ≡ ahead w s (i + 1)
+  pub ahead_on : eqb (get_or w i 0) (lower (get_or s i 0)) ≡ true → ahead w s i ≡ ahead w s (i + 1)
   unfolding word
-  ahead-on e = rw (left_is, add-one, drop-cons w i 0 h, drop-cons s i 0 k, e)
+  ahead_on e = rw (left_is, add-one, drop-cons w i 0 h, drop-cons s i 0 k, e)
 
-  pub ahead-stop : eqb (get_or w i 0) (lower (get_or s i 0)) ≡ false → ahead w s i ≡ false
+  pub ahead_stop : eqb (get_or w i 0) (lower (get_or s i 0)) ≡ false → ahead w s i ≡ false
   unfolding word
-  ahead-stop e = rw (left_is, drop-cons w i 0 h, drop-cons s i 0 k, e)
+  ahead_stop e = rw (left_is, drop-cons w i 0 h, drop-cons s i 0 k, e)

@@ -15,9 +15,9 @@ module _ (passes : ℕ → Bool) where
   unfolding back_off
   step_on n h = rw h
 
-  step-stop : (n : ℕ) → passes (suc n) ≡ false → back_off passes (suc n) ≡ suc n
+  step_stop : (n : ℕ) → passes (suc n) ≡ false → back_off passes (suc n) ≡ suc n
   unfolding back_off
-  step-stop n h = rw h
+  step_stop n h = rw h
 
   at_zero : back_off passes 0 ≡ 0
   unfolding back_off
@@ -26,7 +26,7 @@ module _ (passes : ℕ → Bool) where
   -- the same as a loop meets it
   pub stops_at : (n : ℕ) → passes n ≡ false → back_off passes n ≡ n
   stops_at zero h = at_zero
-  stops_at (suc n) h = step-stop n h
+  stops_at (suc n) h = step_stop n h
 
   pub goes_on : (n : ℕ) → passes 0 ≡ false → passes n ≡ true → (1 ≤ n) × (back_off passes (n - 1) ≡ back_off passes n)
   goes_on zero z h = absurd (never _ h z)
@@ -40,7 +40,7 @@ module _ (passes : ℕ → Bool) where
     where
       go : (b : Bool) → passes (suc n) ≡ b → back_off passes n ≤ n → back_off passes (suc n) ≤ suc n
       go true h ih = omega (arith, step_on n h)
-      go false h ih = omega (arith, step-stop n h)
+      go false h ih = omega (arith, step_stop n h)
 
   -- it does not pass, if 0 does not
   pub stays : (n : ℕ) → passes 0 ≡ false → passes (back_off passes n) ≡ false
@@ -49,7 +49,7 @@ module _ (passes : ℕ → Bool) where
     where
       go : (b : Bool) → passes (suc n) ≡ b → passes (back_off passes n) ≡ false → passes (back_off passes (suc n)) ≡ false
       go true h ih = rw (step_on n h) ih
-      go false h ih = rw (step-stop n h) h
+      go false h ih = rw (step_stop n h) h
 
   -- all above it pass
   pub above : (n m : ℕ) → back_off passes n < m → m ≤ n → passes m ≡ true
@@ -57,7 +57,7 @@ module _ (passes : ℕ → Bool) where
   above (suc n) m l h = go (passes (suc n)) refl (above n m) (dec_lt n m)
     where
       go : (b : Bool) → passes (suc n) ≡ b → (back_off passes n < m → m ≤ n → passes m ≡ true) → Dec (n < m) → passes m ≡ true
-      go false e ih d = absurd (omega (arith, step-stop n e))
+      go false e ih d = absurd (omega (arith, step_stop n e))
       go true e ih (yes k) = let i : m ≡ suc n = omega arith in rw i e
       go true e ih (no k) = ih (omega (arith, step_on n e)) (omega (arith, k))
 

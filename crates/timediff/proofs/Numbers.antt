@@ -11,7 +11,7 @@ use Rattle.calendar.proofs.Months.{len_high, first_next}
 use Rattle.timediff.specs.Promise.{Past}
 use Rattle.timediff.specs.Spans.{moved, gap, Toward, month_at, shifted, passes, between, months_of, rest_of}
 use Rattle.timediff.proofs.BackOff as off
-use Rattle.timediff.proofs.Shifts.{is_past, is_within, not_past, home, in_month_is, into-31, month_low, ordered, none_stays, two_before, one_after}
+use Rattle.timediff.proofs.Shifts.{is_past, is_within, not_past, home, in_month_is, into_31, month_low, ordered, none_stays, two_before, one_after}
 
 -- ---- the greatest months
 
@@ -25,9 +25,9 @@ module _ (plus : Bool) (a b : ℕ) where
   unfolding months_of passes
   greatest n l h = off.greatest (passes plus a b) (between plus a b) n l (not_past plus a (shifted plus b n) h)
 
-  pub greater-passes : (n : ℕ) → months_of plus a b < n → n ≤ between plus a b → Past plus a (shifted plus b n)
+  pub greater_passes : (n : ℕ) → months_of plus a b < n → n ≤ between plus a b → Past plus a (shifted plus b n)
   unfolding months_of passes
-  greater-passes n l h = is_past plus a (shifted plus b n) (off.above (passes plus a b) (between plus a b) n l h)
+  greater_passes n l h = is_past plus a (shifted plus b n) (off.above (passes plus a b) (between plus a b) n l h)
 
   pub stays : InRange a → InRange b → Toward plus a b → Toward plus a (shifted plus b (months_of plus a b))
   unfolding months_of passes
@@ -70,7 +70,7 @@ rest_forward a b n A B o u w g = go (dec_lt n (month_at a - month_at b))
         omega (arith, in_month_is b (suc (month_at b + n)), in_month_is b (month_at b + n), first_next (month_at b + n) (omega (arith, month_low b B)), len_high (month_at b + n))
     go (no l) =
         let e : month_at b + n ≡ month_at a = omega (arith, l) in
-        rw e (omega (arith, in_month_is b (month_at a), home a A, in_month_is a (month_at a), into-31 a A))
+        rw e (omega (arith, in_month_is b (month_at a), home a A, in_month_is a (month_at a), into_31 a A))
 
 rest_backward : (a b n : ℕ) → InRange a → InRange b → month_at a ≤ month_at b → n ≤ between false a b → a ≤ shifted false b n → ((m : ℕ) → n < m → m ≤ between false a b → shifted false b m < a) → shifted false b n - a < 31 * day_length
 unfolding shifted between
@@ -82,12 +82,12 @@ rest_backward a b n A B o u w g = go (dec_lt n (month_at b - month_at a))
         rw e (omega (arith, g (suc n) (omega arith) l, in_month_is b (suc (month_at b - suc n)), in_month_is b (month_at b - suc n), first_next (month_at b - suc n) (omega (arith, month_low a A)), len_high (month_at b - suc n)))
     go (no l) =
         let e : month_at b - n ≡ month_at a = omega (arith, l) in
-        rw e (omega (arith, in_month_is b (month_at a), home a A, in_month_is a (month_at a), into-31 b B))
+        rw e (omega (arith, in_month_is b (month_at a), home a A, in_month_is a (month_at a), into_31 b B))
 
 pub rest_high : (plus : Bool) (a b : ℕ) → InRange a → InRange b → Toward plus a b → rest_of plus a b < 31 * day_length
 unfolding rest_of
-rest_high true a b A B w = rest_forward a b (months_of true a b) A B (ordered true a b A B w) (up_to true a b) (stays true a b A B w) (greater-passes true a b)
-rest_high false a b A B w = rest_backward a b (months_of false a b) A B (ordered false a b A B w) (up_to false a b) (stays false a b A B w) (greater-passes false a b)
+rest_high true a b A B w = rest_forward a b (months_of true a b) A B (ordered true a b A B w) (up_to true a b) (stays true a b A B w) (greater_passes true a b)
+rest_high false a b A B w = rest_backward a b (months_of false a b) A B (ordered false a b A B w) (up_to false a b) (stays false a b A B w) (greater_passes false a b)
 
 -- ---- the months, and then the rest, take B to A
 

@@ -35,21 +35,21 @@ module _ (a b : ℕ) (A : InRange a) (B : InRange b) (p : Moment) (h : StandsFor
       let w = toward a b in
       let shift = by_months_lem plus a b A B w p h in
       let up = numbers.up_to plus a b in
-      record { sign = refl; reach = arrives plus a b A B w p h; days = days_high a b A B; up_to = up; stays = rw (shift _ up) (numbers.stays plus a b A B w); most = λ n l t. numbers.greatest plus a b n l (rw (shift n l) at t); passes = λ n m l. rw (shift n l) (numbers.greater-passes plus a b n m l) }
+      record { sign = refl; reach = arrives plus a b A B w p h; days = days_high a b A B; up_to = up; stays = rw (shift _ up) (numbers.stays plus a b A B w); most = λ n l t. numbers.greatest plus a b n l (rw (shift n l) at t); passes = λ n m l. rw (shift n l) (numbers.greater_passes plus a b n m l) }
 
   -- the other way from A no month lies between, and B itself lies past A: so the sign need not be promised but for equal instants
   at_home : (plus : Bool) → (put_back plus 0 0 p).ms ≡ b
   at_home true = by_months_lem true b b B B (omega arith) p h 0 (omega arith) ∙ none true b b B B (omega arith)
   at_home false = by_months_lem false b b B B (omega arith) p h 0 (omega arith) ∙ none false b b B B (omega arith)
 
-  pub sign-is : (plus : Bool) (n : ℕ) → (a ≡ b → plus ≡ true) → n ≤ between plus a b → Toward plus a (put_back plus n 0 p).ms → plus ≡ leb b a
+  pub sign_is : (plus : Bool) (n : ℕ) → (a ≡ b → plus ≡ true) → n ≤ between plus a b → Toward plus a (put_back plus n 0 p).ms → plus ≡ leb b a
   unfolding between
-  sign-is true n e l t = go (dec_lt a b)
+  sign_is true n e l t = go (dec_lt a b)
     where
       go : Dec (a < b) → true ≡ leb b a
       go (yes k) = let z : n ≡ 0 = omega (arith, month_order a b A B (omega arith)) in absurd (omega (arith, at_home true, rw z at t))
       go (no k) = sym (le-leb b a (omega (arith, k)))
-  sign-is false n e l t = go (dec_lt a b)
+  sign_is false n e l t = go (dec_lt a b)
     where
       go : Dec (a < b) → false ≡ leb b a
       go (yes k) = sym (lt-leb b a k)

@@ -47,9 +47,9 @@ counts_as : {t : ℕ} {p q : Moment} → p ≡ q → Counts t q → Counts t p
 counts_as e h = rw e h
 
 module _ (plus : Bool) (b n : ℕ) (p : Moment) (h : StandsFor b (fill p)) where
-  month-moved : (y m : ℕ) → y * 12 + m ≡ n → move ((fill p).year * 12 + ((fill p).month - 1)) (signed (not plus) (y * 12 + m)) 1 ≡ moved plus (month_at b) n
+  month_moved : (y m : ℕ) → y * 12 + m ≡ n → move ((fill p).year * 12 + ((fill p).month - 1)) (signed (not plus) (y * 12 + m)) 1 ≡ moved plus (month_at b) n
   unfolding month_at
-  month-moved y m e = steps plus ((fill p).year * 12 + ((fill p).month - 1)) (y * 12 + m) ∙ rw (h.year_is, h.month_is, e)
+  month_moved y m e = steps plus ((fill p).year * 12 + ((fill p).month - 1)) (y * 12 + m) ∙ rw (h.year_is, h.month_is, e)
 
   sum_is : midnight (moved plus (month_at b) n / 12) (moved plus (month_at b) n % 12 + 1) (fill p).day + time_ms (fill p).hour (fill p).minute (fill p).second ≡ shifted plus b n
   unfolding shifted in_month
@@ -62,7 +62,7 @@ module _ (plus : Bool) (b n : ℕ) (p : Moment) (h : StandsFor b (fill p)) where
       let f = fill p in
       let k = moved plus (month_at b) n in
       let by = signed (not plus) (d * day_length + t) in
-      let q : past_end (shift (set_counted f false) (signed (not plus) (y * 12 + m)) 1) ≡ in_other f k = ap (in_other f) (month-moved y m e) in
+      let q : past_end (shift (set_counted f false) (signed (not plus) (y * 12 + m)) 1) ≡ in_other f k = ap (in_other f) (month_moved y m e) in
       let s = ap count_ms q ∙ summed (in_other f k) refl h.is_dated h.is_timed h.no_zone_lem h.not_raw low high in
       counts_as (ap (λ (q : Moment). clear (moment.moved q by 1)) s) (record { ms_is = steps plus _ _ ∙ ap (λ (x : ℕ). moved plus x (d * day_length + t)) sum_is; is_counted = refl; not_dated = refl; not_timed = refl; no_zone_lem = refl; not_raw = h.not_raw; not_failed = h.not_failed })
 

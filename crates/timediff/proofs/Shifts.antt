@@ -49,14 +49,14 @@ module _ (t : ℕ) (h : InRange t) where
       let D = date.exists in
       omega (arith, there_and_back t (from_start t h.from) h.to, of_date (civil t).year (civil t).month (civil t).day D.month_low D.month_high, in_month_lem (month_at t) (civil t).day)
 
-  pub into-low : into t < len (month_at t) * day_length
+  pub into_low : into t < len (month_at t) * day_length
   unfolding into month_at
-  into-low =
+  into_low =
       let D = date.exists in
       omega (arith, time_high t, of_length (civil t).year (civil t).month D.month_low D.month_high, D.day_low, D.day_high)
 
-  pub into-31 : into t < 31 * day_length
-  into-31 = omega (arith, into-low, len_high (month_at t))
+  pub into_31 : into t < 31 * day_length
+  into_31 = omega (arith, into_low, len_high (month_at t))
 
   -- its month is one of -4713 to 9999
   pub month_low : minus_year 4713 * 12 ≤ month_at t
@@ -72,7 +72,7 @@ pub month_order : (t u : ℕ) → InRange t → InRange u → t ≤ u → month_
 month_order t u h i l = go (dec_lt (month_at u) (month_at t))
   where
     go : Dec (month_at u < month_at t) → month_at t ≤ month_at u
-    go (yes k) = omega (arith, first_rises (month_at u) (month_at t) (month_low u i) k, home t h, home u i, in_month_is t (month_at t), in_month_is u (month_at u), into-low u i)
+    go (yes k) = omega (arith, first_rises (month_at u) (month_at t) (month_low u i) k, home t h, home u i, in_month_is t (month_at t), in_month_is u (month_at u), into_low u i)
     go (no k) = omega (arith, k)
 
 -- ---- the shifts from none to the months between
@@ -110,7 +110,7 @@ module _ (plus : Bool) (a b : ℕ) (A : InRange a) (B : InRange b) (w : Toward p
 
 -- two months before A's month B lies before A, whatever its day; and in the month after A's it lies after A
 pub two_before : (a b k : ℕ) → InRange a → InRange b → minus_year 4713 * 12 ≤ k → suc (suc k) ≡ month_at a → in_month b k ≤ a
-two_before a b k A B l e = omega (arith, in_month_is b k, home a A, in_month_is a (month_at a), ap first e, first_next k l, first_next (suc k) (omega arith), len_low k, len_low (suc k), into-31 b B)
+two_before a b k A B l e = omega (arith, in_month_is b k, home a A, in_month_is a (month_at a), ap first e, first_next k l, first_next (suc k) (omega arith), len_low k, len_low (suc k), into_31 b B)
 
 pub one_after : (a b : ℕ) → InRange a → a ≤ in_month b (suc (month_at a))
-one_after a b A = omega (arith, in_month_is b (suc (month_at a)), first_next (month_at a) (month_low a A), home a A, in_month_is a (month_at a), into-low a A)
+one_after a b A = omega (arith, in_month_is b (suc (month_at a)), first_next (month_at a) (month_low a A), home a A, in_month_is a (month_at a), into_low a A)

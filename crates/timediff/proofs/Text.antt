@@ -61,8 +61,8 @@ module _ (a b : ℕ) (A : InRange a) (B : InRange b) where
   pub bytes : length (difference a b) ≡ year_digits ((span a b).months / 12) + 20
   bytes = let t = tells a b (span a b) A B refl in ap length (sym t.text) ∙ span_bytes (span a b) t.writable
 
-  pub bytes-range : (24 ≤ length (difference a b)) × (length (difference a b) ≤ 25)
-  bytes-range = rw bytes (go (ltb ((span a b).months / 12) 10000))
+  pub bytes_range : (24 ≤ length (difference a b)) × (length (difference a b) ≤ 25)
+  bytes_range = rw bytes (go (ltb ((span a b).months / 12) 10000))
     where
       go : (t : Bool) → (24 ≤ (if t then 4 else 5) + 20) × ((if t then 4 else 5) + 20 ≤ 25)
       go true = omega arith
@@ -76,8 +76,8 @@ module _ (a b : ℕ) (A : InRange a) (B : InRange b) where
       from : (t : ℕ) → year 0 ≤ (civil t).year → year 0 * 12 ≤ month_at t
       from t h = omega arith
 
-  pub bytes-24 : year 0 ≤ (civil a).year → year 0 ≤ (civil b).year → length (difference a b) ≡ 24
-  bytes-24 y z = bytes ∙ rw (lt-ltb ((span a b).months / 12) 10000 (omega (arith, years_high y z)))
+  pub bytes_24 : year 0 ≤ (civil a).year → year 0 ≤ (civil b).year → length (difference a b) ≡ 24
+  bytes_24 y z = bytes ∙ rw (lt-ltb ((span a b).months / 12) 10000 (omega (arith, years_high y z)))
 
 -- ---- the parts that are written one after another
 

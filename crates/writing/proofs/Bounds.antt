@@ -45,19 +45,19 @@ unfolding most_of
 bound_pair b c s e = rw (eq-eqb 37 b (sym e))
 
 module _ (f : List ℕ) (i : ℕ) where
-  pub bound-plain : i < length f → (get_or f i 0 ≡ 37 → ⊥) → most_of (drop i f) ≡ 1 + most_of (drop (i + 1) f)
-  bound-plain h n = rw (add-one i, drop-cons f i 0 h) (bound_byte (get_or f i 0) (drop (suc i) f) n)
+  pub bound_plain : i < length f → (get_or f i 0 ≡ 37 → ⊥) → most_of (drop i f) ≡ 1 + most_of (drop (i + 1) f)
+  bound_plain h n = rw (add-one i, drop-cons f i 0 h) (bound_byte (get_or f i 0) (drop (suc i) f) n)
 
-  pub bound-letter : i + 1 < length f → get_or f i 0 ≡ 37 → most_of (drop i f) ≡ most (get_or f (i + 1) 0) + most_of (drop (i + 2) f)
-  bound-letter h e =
+  pub bound_letter : i + 1 < length f → get_or f i 0 ≡ 37 → most_of (drop i f) ≡ most (get_or f (i + 1) 0) + most_of (drop (i + 2) f)
+  bound_letter h e =
       let h₀ : i < length f = omega arith in
       let h₁ : suc i < length f = omega arith in
       let two : i + 2 ≡ suc (suc i) = omega arith in
       rw (add-one i, two, drop-cons f i 0 h₀, drop-cons f (suc i) 0 h₁) (bound_pair (get_or f i 0) (get_or f (suc i) 0) (drop (suc (suc i)) f) e)
 
-  pub bound-end : length f ≤ i → most_of (drop i f) ≡ 0
+  pub bound_end : length f ≤ i → most_of (drop i f) ≡ 0
   unfolding most_of
-  bound-end h = rw (drop_of_length-le f {i = i} h) refl
+  bound_end h = rw (drop_of_length-le f {i = i} h) refl
 
 -- ---- the whole
 pub bound_few : (f : List ℕ) → most_of f ≤ 17 * length f

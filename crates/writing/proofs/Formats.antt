@@ -67,8 +67,8 @@ module _ (p : Moment) (f : List ℕ) where
     at_plain : i < length f → (get_or f i 0 ≡ 37 → ⊥) → formatted p (drop i f) ≡ before (got (get_or f i 0 ∷ [])) (formatted p (drop (i + 1) f))
     at_plain h n = rw (add-one i, drop-cons f i 0 h) (plain p (get_or f i 0) (drop (suc i) f) n)
 
-    at-letter : i + 1 < length f → get_or f i 0 ≡ 37 → formatted p (drop i f) ≡ before (letter (get_or f (i + 1) 0) p) (formatted p (drop (i + 2) f))
-    at-letter h e =
+    at_letter : i + 1 < length f → get_or f i 0 ≡ 37 → formatted p (drop i f) ≡ before (letter (get_or f (i + 1) 0) p) (formatted p (drop (i + 2) f))
+    at_letter h e =
         let h₀ : i < length f = omega arith in
         let h₁ : suc i < length f = omega arith in
         let two : i + 2 ≡ suc (suc i) = omega arith in
@@ -79,44 +79,44 @@ module _ (p : Moment) (f : List ℕ) where
         let h₀ : i < length f = omega arith in
         rw (drop-cons f i 0 h₀, drop_of_length-le f {i = suc i} (omega arith)) (last p (get_or f i 0) e)
 
-    pub passed-plain : i < length f → (get_or f i 0 ≡ 37 → ⊥) → Passed (i + 1) (done ++ (get_or f i 0 ∷ []))
-    passed-plain h n = record { is = here.is ∙ ap (before (got done)) (at_plain h n) ∙ before_assoc done (get_or f i 0 ∷ []) (formatted p (drop (i + 1) f)) }
+    pub passed_plain : i < length f → (get_or f i 0 ≡ 37 → ⊥) → Passed (i + 1) (done ++ (get_or f i 0 ∷ []))
+    passed_plain h n = record { is = here.is ∙ ap (before (got done)) (at_plain h n) ∙ before_assoc done (get_or f i 0 ∷ []) (formatted p (drop (i + 1) f)) }
 
-    pub passed-letter : i + 1 < length f → get_or f i 0 ≡ 37 → (s : List ℕ) → letter (get_or f (i + 1) 0) p ≡ got s → Passed (i + 2) (done ++ s)
-    passed-letter h e s l =
-        record { is = here.is ∙ ap (before (got done)) (at-letter h e ∙ ap (λ (r : Read (List ℕ)). before r (formatted p (drop (i + 2) f))) l) ∙ before_assoc done s (formatted p (drop (i + 2) f)) }
+    pub passed_letter : i + 1 < length f → get_or f i 0 ≡ 37 → (s : List ℕ) → letter (get_or f (i + 1) 0) p ≡ got s → Passed (i + 2) (done ++ s)
+    passed_letter h e s l =
+        record { is = here.is ∙ ap (before (got done)) (at_letter h e ∙ ap (λ (r : Read (List ℕ)). before r (formatted p (drop (i + 2) f))) l) ∙ before_assoc done s (formatted p (drop (i + 2) f)) }
 
-    pub passed-refused : i + 1 < length f → get_or f i 0 ≡ 37 → (x : Refusal) → letter (get_or f (i + 1) 0) p ≡ refuse x → formatted p f ≡ refuse x
-    passed-refused h e x l = here.is ∙ ap (before (got done)) (at-letter h e ∙ ap (λ (r : Read (List ℕ)). before r (formatted p (drop (i + 2) f))) l)
+    pub passed_refused : i + 1 < length f → get_or f i 0 ≡ 37 → (x : Refusal) → letter (get_or f (i + 1) 0) p ≡ refuse x → formatted p f ≡ refuse x
+    passed_refused h e x l = here.is ∙ ap (before (got done)) (at_letter h e ∙ ap (λ (r : Read (List ℕ)). before r (formatted p (drop (i + 2) f))) l)
 
-    pub passed-last : length f ≡ i + 1 → get_or f i 0 ≡ 37 → formatted p f ≡ refuse Refusal.Null
-    passed-last h e = here.is ∙ ap (before (got done)) (at_last h e)
+    pub passed_last : length f ≡ i + 1 → get_or f i 0 ≡ 37 → formatted p f ≡ refuse Refusal.Null
+    passed_last h e = here.is ∙ ap (before (got done)) (at_last h e)
 
-    pub passed-end : length f ≤ i → formatted p f ≡ got done
+    pub passed_end : length f ≤ i → formatted p f ≡ got done
     unfolding formatted
-    passed-end h = here.is ∙ rw (drop_of_length-le f {i = i} h) (ap got (append-nil done))
+    passed_end h = here.is ∙ rw (drop_of_length-le f {i = i} h) (ap got (append-nil done))
 
     -- ---- where the whole format is a text
     module _ (text : IsText (formatted p f)) where
       left : Both (got done) (formatted p (drop i f)) (text_of (formatted p f))
       left = both (got done) (formatted p (drop i f)) (text_of (formatted p f)) (sym here.is ∙ text)
 
-      pub passed-two : i < length f → get_or f i 0 ≡ 37 → i + 1 < length f
-      passed-two h e = go (ℕ_discrete (length f) (i + 1))
+      pub passed_two : i < length f → get_or f i 0 ≡ 37 → i + 1 < length f
+      passed_two h e = go (ℕ_discrete (length f) (i + 1))
         where
           go : Dec (length f ≡ i + 1) → i + 1 < length f
           go (yes l) = absurd (no_text (sym (at_last l e) ∙ left.second))
           go (no l) = omega (arith, l)
 
-      rest-letter : i + 1 < length f → get_or f i 0 ≡ 37 → Both (letter (get_or f (i + 1) 0) p) (formatted p (drop (i + 2) f)) (text_of (formatted p (drop i f)))
-      rest-letter h e = both (letter (get_or f (i + 1) 0) p) (formatted p (drop (i + 2) f)) (text_of (formatted p (drop i f))) (sym (at-letter h e) ∙ left.second)
+      rest_letter : i + 1 < length f → get_or f i 0 ≡ 37 → Both (letter (get_or f (i + 1) 0) p) (formatted p (drop (i + 2) f)) (text_of (formatted p (drop i f)))
+      rest_letter h e = both (letter (get_or f (i + 1) 0) p) (formatted p (drop (i + 2) f)) (text_of (formatted p (drop i f))) (sym (at_letter h e) ∙ left.second)
 
-      pub letter-text : i + 1 < length f → get_or f i 0 ≡ 37 → IsText (letter (get_or f (i + 1) 0) p)
-      letter-text h e = (rest-letter h e).first
+      pub letter_text_lem : i + 1 < length f → get_or f i 0 ≡ 37 → IsText (letter (get_or f (i + 1) 0) p)
+      letter_text_lem h e = (rest_letter h e).first
 
       -- what is still to come after the letter, or after the byte
-      pub after-letter : i + 1 < length f → get_or f i 0 ≡ 37 → text_of (formatted p f) ≡ done ++ (text_of (letter (get_or f (i + 1) 0) p) ++ text_of (formatted p (drop (i + 2) f)))
-      after-letter h e = left.joined ∙ ap (λ (s : List ℕ). done ++ s) (rest-letter h e).joined
+      pub after_letter : i + 1 < length f → get_or f i 0 ≡ 37 → text_of (formatted p f) ≡ done ++ (text_of (letter (get_or f (i + 1) 0) p) ++ text_of (formatted p (drop (i + 2) f)))
+      after_letter h e = left.joined ∙ ap (λ (s : List ℕ). done ++ s) (rest_letter h e).joined
 
-      pub after-plain : i < length f → (get_or f i 0 ≡ 37 → ⊥) → text_of (formatted p f) ≡ done ++ ((get_or f i 0 ∷ []) ++ text_of (formatted p (drop (i + 1) f)))
-      after-plain h n = left.joined ∙ ap (λ (s : List ℕ). done ++ s) (both (got (get_or f i 0 ∷ [])) (formatted p (drop (i + 1) f)) (text_of (formatted p (drop i f))) (sym (at_plain h n) ∙ left.second)).joined
+      pub after_plain : i < length f → (get_or f i 0 ≡ 37 → ⊥) → text_of (formatted p f) ≡ done ++ ((get_or f i 0 ∷ []) ++ text_of (formatted p (drop (i + 1) f)))
+      after_plain h n = left.joined ∙ ap (λ (s : List ℕ). done ++ s) (both (got (get_or f i 0 ∷ [])) (formatted p (drop (i + 1) f)) (text_of (formatted p (drop i f))) (sym (at_plain h n) ∙ left.second)).joined

@@ -11,10 +11,10 @@ use Rattle.rules.specs.Basics.{if◌then◌else◌}
 use Rattle.rules.specs.Floats.{whole}
 use Rattle.rules.specs.Writing.{wide, signed_year, second_text, three_decimals}
 use Rattle.real.specs.InMinute.{in_minute}
-use Rattle.real.proofs.Seconds.{minute-whole}
+use Rattle.real.proofs.Seconds.{minute_whole}
 use Rattle.calendar.specs.Ranges.{InRange}
 use Rattle.digits.proofs.Decimal.{length_exact}
-use Rattle.digits.proofs.Lengths.{length_second, length-decimals, length-seconds}
+use Rattle.digits.proofs.Lengths.{length_second, length_decimals, length_seconds}
 use Rattle.writing.specs.Texts.{date_of, clock_of, whole_time, decimal_time, half, unix_of}
 use Rattle.writing.proofs.Texts.{date_parts, clock_parts}
 
@@ -32,10 +32,10 @@ length_clock h m a b = omega (arith, ap length (clock_parts h m), length-append 
 module _ (h m : ℕ) (s : Float) (a : h < 100) (b : m < 100) (i : in_minute s ≡ true) where
   pub length_whole : length (whole_time h m s) ≡ 8
   length_whole =
-      omega (arith, length-append (clock_of h m ++ (58 ∷ [])) (second_text s), length-append (clock_of h m) (58 ∷ []), length_clock h m a b, length_exact 1 (whole s) (omega arith) (omega (arith, minute-whole s i)))
+      omega (arith, length-append (clock_of h m ++ (58 ∷ [])) (second_text s), length-append (clock_of h m) (58 ∷ []), length_clock h m a b, length_exact 1 (whole s) (omega arith) (omega (arith, minute_whole s i)))
 
-  pub length-decimal : length (decimal_time h m s) ≡ 12
-  length-decimal = omega (arith, length-append (clock_of h m ++ (58 ∷ [])) (three_decimals 2 s), length-append (clock_of h m) (58 ∷ []), length_clock h m a b, length_second s i)
+  pub length_decimal : length (decimal_time h m s) ≡ 12
+  length_decimal = omega (arith, length-append (clock_of h m ++ (58 ∷ [])) (three_decimals 2 s), length-append (clock_of h m) (58 ∷ []), length_clock h m a b, length_second s i)
 
 pub length_half : (am pm m h : ℕ) → length (half am pm m h) ≡ 2
 length_half am pm m h = go (leb 12 h)
@@ -45,5 +45,5 @@ length_half am pm m h = go (leb 12 h)
     go false = refl
 
 pub length_unix : (b : Bool) (t : ℕ) → InRange t → length (unix_of b t) ≤ 17
-length_unix true t r = length-decimals t r.from r.to
-length_unix false t r = omega (arith, length-seconds t r.from r.to)
+length_unix true t r = length_decimals t r.from r.to
+length_unix false t r = omega (arith, length_seconds t r.from r.to)

@@ -19,7 +19,7 @@ use Rattle.rules.specs.declared.Refusal.{Refusal}
 use Rattle.calendar.specs.Ranges.{InRange, MonthDay}
 use Rattle.calendar.proofs.Years.{in_year, year_length_lem, leap_le}
 use Rattle.calendar.proofs.Weeks.{thursday_date, week_high}
-use Rattle.real.proofs.Seconds.{minute-whole}
+use Rattle.real.proofs.Seconds.{minute_whole}
 use Rattle.digits.proofs.Decimal.{length_exact}
 use Rattle.digits.proofs.Lengths.{length_spaced, length_year, length_short, length_second, length_julian}
 use Rattle.writing.specs.Printable.{Printable}
@@ -81,21 +81,21 @@ module _ (p : Moment) (h : Printable p) where
   day_high : day_of_year p.year p.month p.day ≤ 365
   day_high = omega (arith, in_year p.year p.month p.day h.sane.date, year_length_lem p.year, leap_le p.year)
 
-  week-few : (w : ℕ) → (day_of_year p.year p.month p.day + 7 - w) / 7 < 100
-  week-few w = omega (arith, day_high)
+  week_few : (w : ℕ) → (day_of_year p.year p.month p.day + 7 - w) / 7 < 100
+  week_few w = omega (arith, day_high)
 
-  iso-few : length (signed_year 3 (thursday p.ms).year) ≤ 5
-  iso-few = let d = thursday_date p.ms h.range in length_year 3 (thursday p.ms).year (omega arith) (omega (arith, d.low)) d.high
+  iso_few : length (signed_year 3 (thursday p.ms).year) ≤ 5
+  iso_few = let d = thursday_date p.ms h.range in length_year 3 (thursday p.ms).year (omega arith) (omega (arith, d.low)) d.high
 
   year_few : length (signed_year 3 p.year) ≤ 5
   year_few = length_year 3 p.year (omega arith) h.years.from h.years.to
 
-  date-few : length (date_of 3 p.year p.month p.day) ≤ 11
-  date-few = omega (arith, year_few, length_date 3 p.year p.month p.day (field.month p h) (field.day p h))
+  date_few : length (date_of 3 p.year p.month p.day) ≤ 11
+  date_few = omega (arith, year_few, length_date 3 p.year p.month p.day (field.month p h) (field.day p h))
 
-  unix-few : length (unix_text p) ≤ 17
+  unix_few : length (unix_text p) ≤ 17
   unfolding unix_text
-  unix-few = length_unix p.subsec p.ms h.range
+  unix_few = length_unix p.subsec p.ms h.range
 
   aligned : Aligned p letters mosts
   unfolding letters mosts since_monday since_sunday
@@ -106,10 +106,10 @@ module _ (p : Moment) (h : Printable p) where
       let second = field.second p h in
       row tt tt (two 100 p.day day)
       then row tt tt (always 101 2 (length_spaced p.day day))
-      then row tt tt (sometimes 70 11 tt date-few)
+      then row tt tt (sometimes 70 11 tt date_few)
       then row tt tt (always 102 6 (length_second p.second second))
       then row tt tt (sometimes 103 3 tt (length_short (thursday p.ms).year))
-      then row tt tt (sometimes 71 5 tt iso-few)
+      then row tt tt (sometimes 71 5 tt iso_few)
       then row tt tt (two 72 p.hour hour)
       then row tt tt (two 73 (dial p.hour) (dial_high p.hour))
       then row tt tt (always 106 3 (length_exact 2 (day_of_year p.year p.month p.day + 1) (omega arith) (omega (arith, day_high))))
@@ -121,14 +121,14 @@ module _ (p : Moment) (h : Printable p) where
       then row tt tt (always 112 2 (length_half 65 80 77 p.hour))
       then row tt tt (always 80 2 (length_half 97 112 109 p.hour))
       then row tt tt (always 82 5 (length_clock p.hour p.minute hour minute))
-      then row tt tt (sometimes 115 17 tt unix-few)
-      then row tt tt (two 83 (whole p.second) (omega (arith, minute-whole p.second second)))
+      then row tt tt (sometimes 115 17 tt unix_few)
+      then row tt tt (two 83 (whole p.second) (omega (arith, minute_whole p.second second)))
       then row tt tt (always 84 8 (length_whole p.hour p.minute p.second hour minute second))
       then row tt tt (always 117 1 (length_exact 0 (since_monday p.ms + 1) (omega arith) (omega arith)))
-      then row tt tt (two 85 _ (week-few (since_sunday p.ms)))
+      then row tt tt (two 85 _ (week_few (since_sunday p.ms)))
       then row tt tt (two 86 (iso_week p.ms) (omega (arith, week_high p.ms h.range)))
       then row tt tt (always 119 1 (length_exact 0 (since_sunday p.ms) (omega arith) (omega arith)))
-      then row tt tt (two 87 _ (week-few (since_monday p.ms)))
+      then row tt tt (two 87 _ (week_few (since_monday p.ms)))
       then row tt tt (sometimes 89 5 tt year_few)
       then row tt tt (always 37 1 refl)
       then end
@@ -165,8 +165,8 @@ most_in_lem (row ∷ rows) t b = go (is row.0 b) (leb row.1 17) (leb→le row.1 
     go c false f g t = absurd t
 
 module _ (p : Moment) (h : Printable p) (b : ℕ) where
-  pub most-length : length (text_of (letter b p)) ≤ most b
-  most-length = go (letter_is p h b)
+  pub most_length : length (text_of (letter b p)) ≤ most b
+  most_length = go (letter_is p h b)
     where
       go : Letter b (most b) (letter b p) → length (text_of (letter b p)) ≤ most b
       go (none z e) = rw e (omega arith)
@@ -174,25 +174,25 @@ module _ (p : Moment) (h : Printable p) (b : ℕ) where
 
   pub seventeen : length (text_of (letter b p)) ≤ 17
   unfolding most mosts every
-  seventeen = le_trans most-length (most_in_lem mosts tt b)
+  seventeen = le_trans most_length (most_in_lem mosts tt b)
 
-  pub exact-length : NoneOf varying b → length (text_of (letter b p)) ≡ most b
-  exact-length n = go (letter_is p h b)
+  pub exact_length : NoneOf varying b → length (text_of (letter b p)) ≡ most b
+  exact_length n = go (letter_is p h b)
     where
       go : Letter b (most b) (letter b p) → length (text_of (letter b p)) ≡ most b
       go (none z e) = rw (e, z)
       go (some l s) = s.exact n
 
   -- a byte that is no letter, and one that is, but for J
-  pub no-letter : most b ≡ 0 → letter b p ≡ refuse Refusal.Null
-  no-letter z = go (letter_is p h b)
+  pub no_letter : most b ≡ 0 → letter b p ≡ refuse Refusal.Null
+  no_letter z = go (letter_is p h b)
     where
       go : Letter b (most b) (letter b p) → letter b p ≡ refuse Refusal.Null
       go (none z e) = e
       go (some l s) = absurd (omega arith)
 
-  pub a-letter : (most b ≡ 0 → ⊥) → (b ≡ 74 → ⊥) → IsText (letter b p)
-  a-letter n j = go (letter_is p h b)
+  pub a_letter : (most b ≡ 0 → ⊥) → (b ≡ 74 → ⊥) → IsText (letter b p)
+  a_letter n j = go (letter_is p h b)
     where
       go : Letter b (most b) (letter b p) → IsText (letter b p)
       go (none z e) = absurd (n z)

@@ -10,13 +10,15 @@ unfolding leap
 returns-then-year-eq0-2 c =
     let y = c.args.year in
     let fourth : c.if-year-eq0.value ≡ divides 4 y && not (divides 100 y) =
-        elim c.if-year-eq0.branch [
-          then-year-eq0 w ↦ w.value-is ∙ rw (eq-eqb _ _ w.if-year-eq0.true)
-        | else-year-eq0 w ↦ w.value-is ∙ rw (ne_eqb _ _ w.if-year-eq0.false) ] in
+    elim c.if-year-eq0.branch [
+      | then-year-eq0 w ↦ w.value-is ∙ rw (eq-eqb _ _ w.if-year-eq0.true)
+      | else-year-eq0 w ↦ w.value-is ∙ rw (ne_eqb _ _ w.if-year-eq0.false)
+    ] in
     let rule : c.if-year-ne0.value ≡ leap y =
-        elim c.if-year-ne0.branch [
-          then-year-ne0 w ↦ w.value-is ∙ w.if-year-ne0.true ∙ rw (sym fourth ∙ w.if-year-ne0.true)
-        | else-year-ne0 w ↦ w.value-is ∙ rw (sym fourth ∙ w.if-year-ne0.false) ] in
+    elim c.if-year-ne0.branch [
+      | then-year-ne0 w ↦ w.value-is ∙ w.if-year-ne0.true ∙ rw (sym fourth ∙ w.if-year-ne0.true)
+      | else-year-ne0 w ↦ w.value-is ∙ rw (sym fourth ∙ w.if-year-ne0.false)
+    ] in
     (rw (sym rule ∙ c.if-year-eq0-2.true), search rules)
 
 pub returns-else-year-eq0-2 : goal.returns-else-year-eq0-2
@@ -24,11 +26,13 @@ unfolding leap
 returns-else-year-eq0-2 c =
     let y = c.args.year in
     let fourth : c.if-year-eq0.value ≡ divides 4 y && not (divides 100 y) =
-        elim c.if-year-eq0.branch [
-          then-year-eq0 w ↦ w.value-is ∙ rw (eq-eqb _ _ w.if-year-eq0.true)
-        | else-year-eq0 w ↦ w.value-is ∙ rw (ne_eqb _ _ w.if-year-eq0.false) ] in
+    elim c.if-year-eq0.branch [
+      | then-year-eq0 w ↦ w.value-is ∙ rw (eq-eqb _ _ w.if-year-eq0.true)
+      | else-year-eq0 w ↦ w.value-is ∙ rw (ne_eqb _ _ w.if-year-eq0.false)
+    ] in
     let rule : c.if-year-ne0.value ≡ leap y =
-        elim c.if-year-ne0.branch [
-          then-year-ne0 w ↦ w.value-is ∙ w.if-year-ne0.true ∙ rw (sym fourth ∙ w.if-year-ne0.true)
-        | else-year-ne0 w ↦ w.value-is ∙ rw (sym fourth ∙ w.if-year-ne0.false) ] in
+    elim c.if-year-ne0.branch [
+      | then-year-ne0 w ↦ w.value-is ∙ w.if-year-ne0.true ∙ rw (sym fourth ∙ w.if-year-ne0.true)
+      | else-year-ne0 w ↦ w.value-is ∙ rw (sym fourth ∙ w.if-year-ne0.false)
+    ] in
     (rw (sym rule ∙ c.if-year-eq0-2.false), search rules)

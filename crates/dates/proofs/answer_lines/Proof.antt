@@ -7,7 +7,7 @@ use borrow.Author.Rules.{rules}
 use borrow.Author.Tests.{ltb-true}
 use Rattle.digits.proofs.Buffer.{laid_length}
 use Rattle.dates.specs.Answers.{Answered}
-use Rattle.dates.proofs.Ended.{passed_on, answers-start, answers-on, answers-all, answers-full}
+use Rattle.dates.proofs.Ended.{passed_on, answers_start, answers_on, answers_all, answers_full}
 use Rattle.dates.proofs.answer_lines.Statement.{statement}
 use Rattle.dates.proofs.answer_lines.Tie as tie
 
@@ -18,7 +18,7 @@ abbrev decreases-loop : tie.decreases-loop
 decreases-loop set block at room₀ out₀ used from₀ next₀ room out from next = length block - from
 
 loop-holds : tie.Need-loop-init invariant-loop decreases-loop
-loop-holds c = answers-start _ c.before.before.requires.0 c.before.before.requires.1
+loop-holds c = answers_start _ c.before.before.requires.0 c.before.before.requires.1
 
 has-room-requires : tie.Need-has-room-requires invariant-loop decreases-loop
 has-room-requires c κs = c.before.loop.invariant.used_inside
@@ -30,7 +30,7 @@ same_length : tie.Need-same-length invariant-loop decreases-loop
 same_length c = laid_length c.before.before.before.before.before.loop.invariant.laid
 
 returns : tie.Need-returns invariant-loop decreases-loop
-returns c = answers-all c.before.before.before.before.before.loop.invariant c.before.line-end.ensures c.if2.true
+returns c = answers_all c.before.before.before.before.before.loop.invariant c.before.line-end.ensures c.if2.true
 
 sub-put-line : tie.Need-overflow-sub-put-line invariant-loop decreases-loop
 sub-put-line c = passed_on c.before.line-end.ensures
@@ -51,13 +51,13 @@ loop-less : tie.Need-loop-smaller invariant-loop decreases-loop
 loop-less c = omega (arith, passed_on c.before.before.before.before.before.before.before.line-end.ensures, c.before.before.before.before.before.before.if2.false)
 
 loop-again : tie.Need-loop-preserved invariant-loop decreases-loop
-loop-again c = answers-on c.before.before.before.before.before.before.before.before.before.before.before.loop.invariant c.before.before.before.before.before.before.before.line-end.ensures c.before.before.before.before.before.before.if2.false c.before.before.put-line.ensures.0 c.before.before.put-line.ensures.1
+loop-again c = answers_on c.before.before.before.before.before.before.before.before.before.before.before.loop.invariant c.before.before.before.before.before.before.before.line-end.ensures c.before.before.before.before.before.before.if2.false c.before.before.put-line.ensures.0 c.before.before.put-line.ensures.1
 
 same-length-2 : tie.Need-same-length-2 invariant-loop decreases-loop
 same-length-2 c = laid_length c.before.before.before.loop.invariant.laid
 
 returns-2 : tie.Need-returns-2 invariant-loop decreases-loop
-returns-2 c = answers-full c.before.before.before.loop.invariant c.before.has_room.ensures c.if1.false
+returns-2 c = answers_full c.before.before.before.loop.invariant c.before.has_room.ensures c.if1.false
 
 pub answer-lines-spec : {M : Type 1} → statement M
 answer-lines-spec =

@@ -4,7 +4,7 @@ use mathlib.Core.Path.{◌≡◌, refl}
 use native.Mathlib.Omega.{arith}
 use lib.ListN.{length, length-set}
 use borrow.Author.Rules.{rules}
-use Rattle.dates.proofs.Keeping.{KeptTo, kept_start, kept_on, kept_full, kept-all}
+use Rattle.dates.proofs.Keeping.{KeptTo, kept_start, kept_on, kept_full, kept_all}
 use Rattle.dates.proofs.keep.Statement.{statement}
 use Rattle.dates.proofs.keep.Tie as tie
 
@@ -54,7 +54,7 @@ same-length-2 : tie.Need-same-length-2 invariant-loop decreases-loop
 same-length-2 c = c.before.loop.invariant.0
 
 returns-2 : tie.Need-returns-2 invariant-loop decreases-loop
-returns-2 c = kept-all _ _ _ _ _ c.before.loop.invariant.3 c.before.before.requires (omega arith) c.loop-test.false
+returns-2 c = kept_all _ _ _ _ _ c.before.loop.invariant.3 c.before.before.requires (omega arith) c.loop-test.false
 
 pub keep_spec : {M : Type 1} → statement M
 keep_spec =

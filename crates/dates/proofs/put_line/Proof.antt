@@ -2,7 +2,7 @@
 use Prim.Native.Nat.{◌+◌, ◌-◌, ◌≤◌}
 use native.Mathlib.Omega.{arith}
 use borrow.Author.Rules.{rules}
-use Rattle.dates.proofs.Laying.{line-room, line-laid}
+use Rattle.dates.proofs.Laying.{line_room, line_laid}
 use Rattle.dates.proofs.put_line.Statement.{statement}
 use Rattle.dates.proofs.put_line.Tie as tie
 
@@ -12,7 +12,7 @@ few c =
     let s = c.before.before.before.before.before.before.before.before in
     let a = s.args in
     let line = c.before.before.before.line in
-    line-room a.set a.s.now a.out.now _ a.used (a.used + 16384 - a.used) (omega arith) s.requires line.ensures.0 line.ensures.1.0 c.text-length.ensures
+    line_room a.set a.s.now a.out.now _ a.used (a.used + 16384 - a.used) (omega arith) s.requires line.ensures.0 line.ensures.1.0 c.text-length.ensures
 
 add-end : tie.Need-overflow-add-end
 add-end c = search rules
@@ -49,7 +49,7 @@ returns c =
     let s = c.before.before.before.before.before.before.before.before.before.before.before.before.before in
     let a = s.args in
     let line = c.before.before.before.before.before.before.before.before.line in
-    line-laid a.set a.s.now a.out.now _ a.used (a.used + 16384 - a.used) (omega arith) s.requires line.ensures.0 line.ensures.1.0 c.before.before.before.before.before.text-length.ensures c.before.before.put.ensures
+    line_laid a.set a.s.now a.out.now _ a.used (a.used + 16384 - a.used) (omega arith) s.requires line.ensures.0 line.ensures.1.0 c.before.before.before.before.before.text-length.ensures c.before.before.put.ensures
 
 pub put-line-spec : {M : Type 1} → statement M
 put-line-spec =

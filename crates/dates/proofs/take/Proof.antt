@@ -6,7 +6,7 @@ use lib.ListN.{length, take}
 use lib.Seq.{length-take-le}
 use borrow.Author.Rules.{rules}
 use Rattle.dates.specs.Answers.{last_after}
-use Rattle.dates.proofs.Ended.{last_begins, last-goes-on, last-after}
+use Rattle.dates.proofs.Ended.{last_begins, last_goes_on, last_after_lem}
 use Rattle.dates.proofs.Keeping.{kept_same}
 use Rattle.dates.proofs.take.Statement.{statement}
 use Rattle.dates.proofs.take.Tie as tie
@@ -38,7 +38,7 @@ same-length-3 : tie.Need-same-length-3
 same-length-3 c = search rules
 
 returns-2 : tie.Need-returns-2
-returns-2 c = (search rules, λ h. kept_same (length c.before.before.before.keep.new.0) c.before.before.before.keep.ensures.bytes (last-goes-on (take c.before.before.before.before.before.before.before.before.before.before.before.args.t.have c.before.before.before.before.before.before.before.before.before.before.before.args.kept.now) c.before.before.before.before.before.before.before.before.before.before.before.args.block.now _ c.before.before.before.before.before.before.line-end.ensures c.if3.true))
+returns-2 c = (search rules, λ h. kept_same (length c.before.before.before.keep.new.0) c.before.before.before.keep.ensures.bytes (last_goes_on (take c.before.before.before.before.before.before.before.before.before.before.before.args.t.have c.before.before.before.before.before.before.before.before.before.before.before.args.kept.now) c.before.before.before.before.before.before.before.before.before.before.before.args.block.now _ c.before.before.before.before.before.before.line-end.ensures c.if3.true))
 
 close-requires : tie.Need-close-requires
 close-requires c κs = search rules
@@ -56,7 +56,7 @@ same-length-5 : tie.Need-same-length-5
 same-length-5 c = search rules
 
 returns-3 : tie.Need-returns-3
-returns-3 c = (search rules, λ h. kept_same (length c.before.before.before.before.take-from2.new.1.1.1.0) (c.before.before.before.before.take-from2.ensures.1 h) (last-after (take c.before.before.before.before.before.before.before.before.before.before.before.before.before.before.before.before.before.before.before.before.before.before.before.before.before.args.t.have c.before.before.before.before.before.before.before.before.before.before.before.before.before.before.before.before.before.before.before.before.before.before.before.before.before.args.kept.now) c.before.before.before.before.before.before.before.before.before.before.before.before.before.before.before.before.before.before.before.before.before.before.before.before.before.args.block.now _ c.before.before.before.before.before.before.before.before.before.before.before.before.before.before.before.before.before.before.before.before.line-end.ensures c.before.before.before.before.before.before.before.before.before.before.before.before.before.before.if3.false))
+returns-3 c = (search rules, λ h. kept_same (length c.before.before.before.before.take-from2.new.1.1.1.0) (c.before.before.before.before.take-from2.ensures.1 h) (last_after_lem (take c.before.before.before.before.before.before.before.before.before.before.before.before.before.before.before.before.before.before.before.before.before.before.before.before.before.args.t.have c.before.before.before.before.before.before.before.before.before.before.before.before.before.before.before.before.before.before.before.before.before.before.before.before.before.args.kept.now) c.before.before.before.before.before.before.before.before.before.before.before.before.before.before.before.before.before.before.before.before.before.before.before.before.before.args.block.now _ c.before.before.before.before.before.before.before.before.before.before.before.before.before.before.before.before.before.before.before.before.line-end.ensures c.before.before.before.before.before.before.before.before.before.before.before.before.before.before.if3.false))
 
 pub take_spec : {M : Type 1} → statement M
 take_spec =

@@ -9,7 +9,7 @@ use borrow.Author.Rules.{rules}
 use borrow.Author.Tests.{not-false}
 use Rattle.dates.specs.Buffers.{Within}
 use Rattle.dates.specs.Answers.{last_from}
-use Rattle.dates.proofs.Ended.{answers-none}
+use Rattle.dates.proofs.Ended.{answers_none}
 use Rattle.dates.proofs.Keeping.{kept_last}
 use Rattle.dates.proofs.take_from.Statement.{statement}
 use Rattle.dates.proofs.take_from.Tie as tie
@@ -57,7 +57,7 @@ same-length-4 : tie.Need-same-length-4 invariant-loop decreases-loop
 same-length-4 c = search rules
 
 returns-2 : tie.Need-returns-2 invariant-loop decreases-loop
-returns-2 c = (search rules, λ h. kept_last _ c.before.before.before.before.before.before.before.before.before.before.before.before.before.before.before.before.before.before.before.before.before.args.block.now _ _ c.before.before.before.before.before.before.before.before.before.before.before.before.before.before.before.before.before.before.before.before.before.args.from c.before.before.before.before.before.before.before.before.before.before.before.before.before.before.before.before.before.loop.at _ c.before.before.keep.ensures c.before.before.before.before.before.before.before.before.before.before.before.before.before.before.before.before.before.loop.invariant.4 (answers-none c.before.before.before.before.before.before.before.before.before.answer-lines.ensures c.before.before.before.before.before.if3.true c.before.before.before.before.before.before.before.before.before.before.before.before.before.make-room.ensures.1.room))
+returns-2 c = (search rules, λ h. kept_last _ c.before.before.before.before.before.before.before.before.before.before.before.before.before.before.before.before.before.before.before.before.before.args.block.now _ _ c.before.before.before.before.before.before.before.before.before.before.before.before.before.before.before.before.before.before.before.before.before.args.from c.before.before.before.before.before.before.before.before.before.before.before.before.before.before.before.before.before.loop.at _ c.before.before.keep.ensures c.before.before.before.before.before.before.before.before.before.before.before.before.before.before.before.before.before.loop.invariant.4 (answers_none c.before.before.before.before.before.before.before.before.before.answer-lines.ensures c.before.before.before.before.before.if3.true c.before.before.before.before.before.before.before.before.before.before.before.before.before.make-room.ensures.1.room))
 
 loop-less : tie.Need-loop-smaller invariant-loop decreases-loop
 loop-less c = omega (arith, c.before.before.before.before.answer-lines.ensures.answered.on, c.before.before.before.before.answer-lines.ensures.answered.inside, c.if3.false)

@@ -1,7 +1,7 @@
 -- `datetime::julianday` meets its contract. Assumes nothing.
 use borrow.Author.Rules.{rules}
 use Rattle.datetime.specs.Opened.{Ready}
-use Rattle.datetime.proofs.Answers.{landed, number-refused, julianday-answer}
+use Rattle.datetime.proofs.Answers.{landed, number_refused, julianday_answer}
 use Rattle.datetime.proofs.julianday.Statement.{statement}
 use Rattle.datetime.proofs.julianday.Tie as tie
 
@@ -18,10 +18,10 @@ enum-known-r : tie.Need-enum-known-r
 enum-known-r c = search rules
 
 returns : tie.Need-returns
-returns c = julianday-answer _ _ _ _ c.before.before.before.before.moment-of.ensures.0 _ c.before.before.p.given.1 c.julian-real.ensures
+returns c = julianday_answer _ _ _ _ c.before.before.before.before.moment-of.ensures.0 _ c.before.before.p.given.1 c.julian-real.ensures
 
 returns-2 : tie.Need-returns-2
-returns-2 c = number-refused _ _ _ _ c.before.before.before.moment-of.ensures.0 _ _ c.before.r.given.1
+returns-2 c = number_refused _ _ _ _ c.before.before.before.moment-of.ensures.0 _ _ c.before.r.given.1
 
 pub julianday-spec : {M : Type 1} → statement M
 julianday-spec =

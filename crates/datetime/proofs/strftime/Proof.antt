@@ -5,7 +5,7 @@ use lib.ListN.{length}
 use Rattle.rules.specs.Moments.{Moment}
 use Rattle.datetime.specs.Opened.{Ready}
 use Rattle.datetime.proofs.Given.{stated, gives_refusal}
-use Rattle.datetime.proofs.Answers.{landed, filled, strftime-refused, strftime-answer}
+use Rattle.datetime.proofs.Answers.{landed, filled, strftime_refused, strftime_answer}
 use Rattle.datetime.proofs.strftime.Statement.{statement}
 use Rattle.datetime.proofs.strftime.Tie as tie
 
@@ -28,10 +28,10 @@ same_length : tie.Need-same-length
 same_length c = search rules
 
 returns : tie.Need-returns
-returns c = stated (strftime-answer _ _ _ _ _ c.before.before.before.before.before.before.before.before.moment-for.ensures.0 _ c.before.before.before.before.before.before.p.given.1 _ c.before.before.before.before.fill.ensures.is) c.before.before.formatted.ensures
+returns c = stated (strftime_answer _ _ _ _ _ c.before.before.before.before.before.before.before.before.moment-for.ensures.0 _ c.before.before.before.before.before.before.p.given.1 _ c.before.before.before.before.fill.ensures.is) c.before.before.formatted.ensures
 
 returns-2 : tie.Need-returns-2
-returns-2 c = stated (strftime-refused _ _ _ _ _ c.before.before.before.moment-for.ensures.0 _ c.before.r.given.1) (gives_refusal _ _)
+returns-2 c = stated (strftime_refused _ _ _ _ _ c.before.before.before.moment-for.ensures.0 _ c.before.r.given.1) (gives_refusal _ _)
 
 pub strftime-spec : {M : Type 1} → statement M
 strftime-spec =

@@ -2,7 +2,7 @@
 use borrow.Author.Rules.{rules}
 use Rattle.datetime.specs.Opened.{Ready}
 use Rattle.datetime.proofs.Given.{stated, gives_refusal}
-use Rattle.datetime.proofs.Answers.{landed, call-refused, time-answer}
+use Rattle.datetime.proofs.Answers.{landed, call_refused, time_answer}
 use Rattle.datetime.proofs.time.Statement.{statement}
 use Rattle.datetime.proofs.time.Tie as tie
 
@@ -25,10 +25,10 @@ same_length : tie.Need-same-length
 same_length c = search rules
 
 returns : tie.Need-returns
-returns c = stated (time-answer _ _ _ _ c.before.before.before.before.before.before.before.before.moment-of.ensures.0 _ c.before.before.before.before.before.before.p.given.1 _ c.before.before.before.before.renewed.ensures.0) c.before.before.time.ensures
+returns c = stated (time_answer _ _ _ _ c.before.before.before.before.before.before.before.before.moment-of.ensures.0 _ c.before.before.before.before.before.before.p.given.1 _ c.before.before.before.before.renewed.ensures.0) c.before.before.time.ensures
 
 returns-2 : tie.Need-returns-2
-returns-2 c = stated (call-refused _ _ _ _ c.before.before.before.moment-of.ensures.0 _ _ c.before.r.given.1) (gives_refusal _ _)
+returns-2 c = stated (call_refused _ _ _ _ c.before.before.before.moment-of.ensures.0 _ _ c.before.r.given.1) (gives_refusal _ _)
 
 pub time-spec : {M : Type 1} → statement M
 time-spec =

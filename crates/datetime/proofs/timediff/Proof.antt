@@ -1,7 +1,7 @@
 -- `datetime::timediff` meets its contract. Assumes nothing.
 use borrow.Author.Rules.{rules}
 use Rattle.datetime.proofs.Given.{stated, gives_refusal}
-use Rattle.datetime.proofs.Differences.{both_in_range, timediff-answer, timediff-refused}
+use Rattle.datetime.proofs.Differences.{both_in_range, timediff_answer, timediff_refused}
 use Rattle.datetime.proofs.timediff.Statement.{statement}
 use Rattle.datetime.proofs.timediff.Tie as tie
 
@@ -21,10 +21,10 @@ same_length : tie.Need-same-length
 same_length c = search rules
 
 returns : tie.Need-returns
-returns c = stated (timediff-answer _ _ _ _ c.before.before.before.before.before.before.before.instants.ensures.0 _ _ c.before.before.before.before.before.x.given.1) c.before.before.difference.ensures
+returns c = stated (timediff_answer _ _ _ _ c.before.before.before.before.before.before.before.instants.ensures.0 _ _ c.before.before.before.before.before.x.given.1) c.before.before.difference.ensures
 
 returns-2 : tie.Need-returns-2
-returns-2 c = stated (timediff-refused _ _ _ _ c.before.before.before.instants.ensures.0 _ c.before.r.given.1) (gives_refusal _ _)
+returns-2 c = stated (timediff_refused _ _ _ _ c.before.before.before.instants.ensures.0 _ c.before.r.given.1) (gives_refusal _ _)
 
 pub timediff-spec : {M : Type 1} → statement M
 timediff-spec =

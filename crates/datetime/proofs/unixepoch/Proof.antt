@@ -1,7 +1,7 @@
 -- `datetime::unixepoch` meets its contract. Assumes nothing.
 use borrow.Author.Rules.{rules}
 use Rattle.datetime.specs.Opened.{Ready}
-use Rattle.datetime.proofs.Answers.{landed, number-refused, unixepoch-answer}
+use Rattle.datetime.proofs.Answers.{landed, number_refused, unixepoch_answer}
 use Rattle.datetime.proofs.unixepoch.Statement.{statement}
 use Rattle.datetime.proofs.unixepoch.Tie as tie
 
@@ -18,10 +18,10 @@ enum-known-r : tie.Need-enum-known-r
 enum-known-r c = search rules
 
 returns : tie.Need-returns
-returns c = unixepoch-answer _ _ _ _ c.before.before.before.before.moment-of.ensures.0 _ c.before.before.p.given.1 c.unix.ensures
+returns c = unixepoch_answer _ _ _ _ c.before.before.before.before.moment-of.ensures.0 _ c.before.before.p.given.1 c.unix.ensures
 
 returns-2 : tie.Need-returns-2
-returns-2 c = number-refused _ _ _ _ c.before.before.before.moment-of.ensures.0 _ _ c.before.r.given.1
+returns-2 c = number_refused _ _ _ _ c.before.before.before.moment-of.ensures.0 _ _ c.before.r.given.1
 
 pub unixepoch-spec : {M : Type 1} → statement M
 unixepoch-spec =

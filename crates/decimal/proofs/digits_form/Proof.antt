@@ -13,7 +13,7 @@ use Rattle.rules.specs.Decimal.{digits_form, nearest_to}
 use Rattle.decimal.specs.Held.{as_exponent}
 use Rattle.decimal.specs.declared.Power.{Power}
 use Rattle.decimal.proofs.Limits.{scaled, held_down}
-use Rattle.decimal.proofs.Readers.{taken_small, digits-none, digits-some}
+use Rattle.decimal.proofs.Readers.{taken_small, digits_none, digits_some}
 use Rattle.decimal.proofs.digits_form.Statement.{statement}
 use Rattle.decimal.proofs.digits_form.Tie as tie
 
@@ -33,7 +33,7 @@ add-if1 c = let h = few c.before.before in omega arith
 returns : tie.Need-returns
 returns c =
     let a = c.before.before.before.before.before.before.args in
-    sym (digits-none a.minus a.s.now a.at _ _ c.before.before.before.before.run.ensures c.before.before.before.point.ensures c.if1.true)
+    sym (digits_none a.minus a.s.now a.at _ _ c.before.before.before.before.run.ensures c.before.before.before.point.ensures c.if1.true)
 
 exponent-requires : tie.Need-exponent-requires
 exponent-requires c κs = search rules
@@ -47,7 +47,7 @@ scaled_is c =
     let a = c.before.before.before.before.before.before.before.args in
     let all = c.before.before.before.before.point.result in
     let h = few c.before.before.before.before in
-    digits-some a.minus a.s.now a.at _ _ c.before.before.before.before.before.run.ensures c.before.before.before.before.point.ensures c.before.if1.false (omega arith)
+    digits_some a.minus a.s.now a.at _ _ c.before.before.before.before.before.run.ensures c.before.before.before.before.point.ensures c.before.if1.false (omega arith)
     ∙ ap (λ (x : Read (Bool × ℕ)). ◌>>=◌ x (scaled a.minus all.value all.count)) (sym c.exponent.ensures)
 
 enum_told : tie.Need-enum-told

@@ -4,7 +4,7 @@ use mathlib.Core.Bool.{Bool, true, false}
 use borrow.Author.Rules.{rules}
 use lib.Ieee.{Float, inf, binary64, of_bits, div, neg}
 use Rattle.rules.specs.Basics.{if◌then◌else◌, ascii, word, got}
-use Rattle.decimal.proofs.Readers.{named-inf, named-infinity, named-nan, named_none}
+use Rattle.decimal.proofs.Readers.{named_inf, named_infinity, named_nan, named_none}
 use Rattle.decimal.proofs.named.Statement.{statement}
 use Rattle.decimal.proofs.named.Tie as tie
 
@@ -31,7 +31,7 @@ returns : tie.Need-returns
 returns c =
     let a = c.before.before.before.before.before.args in
     ap got (c.with-sign.ensures ∙ infinite a.minus _ one_by_zero)
-    ∙ sym (named-inf a.minus a.s.now (sym c.before.before.is_IsWord.ensures ∙ c.before.if1.true))
+    ∙ sym (named_inf a.minus a.s.now (sym c.before.before.is_IsWord.ensures ∙ c.before.if1.true))
 
 slice-aggregate-is-word-2 : tie.Need-slice-aggregate-is-word-2
 slice-aggregate-is-word-2 c = search rules
@@ -49,7 +49,7 @@ returns-2 : tie.Need-returns-2
 returns-2 c =
     let a = c.before.before.before.before.before.before.before.before.args in
     ap got (c.with-sign2.ensures ∙ infinite a.minus _ one_by_zero)
-    ∙ sym (named-infinity a.minus a.s.now (no_inf c.before.before.before.before) (sym c.before.before.is-word2.ensures ∙ c.before.if2.true))
+    ∙ sym (named_infinity a.minus a.s.now (no_inf c.before.before.before.before) (sym c.before.before.is-word2.ensures ∙ c.before.if2.true))
 
 slice-aggregate-is-word-3 : tie.Need-slice-aggregate-is-word-3
 slice-aggregate-is-word-3 c = search rules
@@ -64,7 +64,7 @@ returns-3 : tie.Need-returns-3
 unfolding div of_bits
 returns-3 c =
     let a = c.before.before.before.before.before.before.before.before.before.before.args in
-    sym (named-nan a.minus a.s.now (no_inf c.before.before.before.before.before.before) (no_infinity c.before.before.before) (sym c.before.is-word3.ensures ∙ c.if3.true))
+    sym (named_nan a.minus a.s.now (no_inf c.before.before.before.before.before.before) (no_infinity c.before.before.before) (sym c.before.is-word3.ensures ∙ c.if3.true))
 
 returns-4 : tie.Need-returns-4
 returns-4 c =

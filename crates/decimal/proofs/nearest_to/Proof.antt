@@ -7,7 +7,7 @@ use native.Mathlib.Omega.{arith}
 use borrow.Author.Rules.{rules}
 use lib.Ieee.{Float, binary64, of_bits, round, neg}
 use Rattle.rules.specs.Basics.{if◌then◌else◌, got}
-use Rattle.decimal.proofs.Limits.{too-high, too-low, too_long, none, raised, divided, refused, signed}
+use Rattle.decimal.proofs.Limits.{too_high, too_low, too_long, none, raised, divided, refused, signed}
 use Rattle.decimal.proofs.nearest_to.Statement.{statement}
 use Rattle.decimal.proofs.nearest_to.Tie as tie
 
@@ -32,7 +32,7 @@ returns-2 c = let a = c.before.before.args in sym (too_long a.minus a.d a.up a.d
 returns-3 : tie.Need-returns-3
 returns-3 c =
     let a = c.before.before.before.before.args in
-    sym (too-high a.minus a.d a.up a.down (omega arith) ∙ refused a.minus a.d a.up a.down c.before.before.before.if1.false)
+    sym (too_high a.minus a.d a.up a.down (omega arith) ∙ refused a.minus a.d a.up a.down c.before.before.before.if1.false)
 
 above-requires : tie.Need-above-requires
 above-requires c κs = search rules
@@ -52,7 +52,7 @@ sub-if5 c = search rules
 returns-5 : tie.Need-returns-5
 returns-5 c =
     let a = c.before.before.before.before.args in
-    sym (too-low a.minus a.d a.up a.down (omega arith) (omega arith) ∙ refused a.minus a.d a.up a.down c.before.before.before.if1.false)
+    sym (too_low a.minus a.d a.up a.down (omega arith) (omega arith) ∙ refused a.minus a.d a.up a.down c.before.before.before.if1.false)
 
 sub-below : tie.Need-overflow-sub-below
 sub-below c = search rules

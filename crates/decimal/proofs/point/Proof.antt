@@ -6,7 +6,7 @@ use native.Mathlib.Omega.{arith}
 use borrow.Author.Rules.{rules}
 use borrow.Author.Tests.{not-true, not-false}
 use Rattle.text.specs.Places.{stands}
-use Rattle.text.proofs.Reading.{stands-inside}
+use Rattle.text.proofs.Reading.{stands_inside}
 use Rattle.decimal.proofs.Readers.{taken_none, point_none, point_some}
 use Rattle.decimal.proofs.point.Statement.{statement}
 use Rattle.decimal.proofs.point.Tie as tie
@@ -27,7 +27,7 @@ add-run : tie.Need-overflow-add-run
 add-run c = search rules
 
 run-requires : tie.Need-run-requires
-run-requires c κs = let a = c.before.before.before.args in (omega (arith, stands-inside 46 a.s.now a.at (stands_point c)), c.before.before.before.requires.1)
+run-requires c κs = let a = c.before.before.before.args in (omega (arith, stands_inside 46 a.s.now a.at (stands_point c)), c.before.before.before.requires.1)
 
 returns-2 : tie.Need-returns-2
 returns-2 c = let a = c.before.before.before.before.args in rw (point_some a.s.now a.at (stands_point c.before)) c.run.ensures

@@ -3,8 +3,8 @@ use lib.ListN.{drop}
 use mathlib.Core.Path.{sym, ◌∙◌}
 use native.Mathlib.Omega.{arith}
 use borrow.Author.Rules.{rules}
-use Rattle.text.proofs.Reading.{stands-inside}
-use Rattle.decimal.proofs.Readers.{sign-minus, sign-plus, sign_none}
+use Rattle.text.proofs.Reading.{stands_inside}
+use Rattle.decimal.proofs.Readers.{sign_minus, sign_plus, sign_none}
 use Rattle.decimal.proofs.sign.Statement.{statement}
 use Rattle.decimal.proofs.sign.Tie as tie
 
@@ -18,7 +18,7 @@ returns : tie.Need-returns
 returns c =
     let a = c.before.before.before.args in
     let e = sym c.before.has.ensures ∙ c.if1.true in
-    (sign-minus a.s.now a.at e, omega (arith, stands-inside 45 a.s.now a.at e))
+    (sign_minus a.s.now a.at e, omega (arith, stands_inside 45 a.s.now a.at e))
 
 has-requires-2 : tie.Need-has-requires-2
 has-requires-2 c κs = search rules
@@ -30,7 +30,7 @@ returns-2 : tie.Need-returns-2
 returns-2 c =
     let a = c.before.before.before.before.before.args in
     let e = sym c.before.has2.ensures ∙ c.if2.true in
-    (sign-plus a.s.now a.at e, omega (arith, stands-inside 43 a.s.now a.at e))
+    (sign_plus a.s.now a.at e, omega (arith, stands_inside 43 a.s.now a.at e))
 
 returns-3 : tie.Need-returns-3
 returns-3 c =

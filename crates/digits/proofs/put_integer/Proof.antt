@@ -3,16 +3,16 @@ use mathlib.Core.Path.{◌≡◌, sym}
 use mathlib.Core.List.{◌∷◌}
 use borrow.Author.Rules.{rules}
 use Rattle.rules.specs.Writing.{wide, integer_text}
-use Rattle.digits.proofs.Signs.{minus-text, plain-text}
+use Rattle.digits.proofs.Signs.{minus_text, plain_text}
 use Rattle.digits.proofs.Buffer.{room_as, laid_as}
 use Rattle.digits.proofs.put_integer.Statement.{statement}
 use Rattle.digits.proofs.put_integer.Tie as tie
 
 minus : (c : tie.After-magnitude) → integer_text c.before.before.before.before.args.n ≡ 45 ∷ wide 1 c.magnitude.result
-minus c = let s = c.before.before.before.before in minus-text s.args.n s.ranges.n _ c.magnitude.ensures c.before.before.if1.true
+minus c = let s = c.before.before.before.before in minus_text s.args.n s.ranges.n _ c.magnitude.ensures c.before.before.if1.true
 
 plain : (c : tie.After-magnitude2) → integer_text c.before.before.before.before.args.n ≡ wide 1 c.magnitude2.result
-plain c = let s = c.before.before.before.before in plain-text s.args.n s.ranges.n _ c.magnitude2.ensures c.before.before.if1.false
+plain c = let s = c.before.before.before.before in plain_text s.args.n s.ranges.n _ c.magnitude2.ensures c.before.before.if1.false
 
 magnitude-requires : tie.Need-magnitude-requires
 magnitude-requires c κs = search rules

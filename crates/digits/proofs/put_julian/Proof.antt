@@ -5,16 +5,16 @@ use mathlib.Core.List.{[], ◌∷◌, ◌++◌}
 use native.Mathlib.Omega.{arith}
 use borrow.Author.Rules.{rules}
 use Rattle.rules.specs.Writing.{places, wide, julian_text}
-use Rattle.digits.proofs.Trim.{julian-whole, julian-point}
+use Rattle.digits.proofs.Trim.{julian_whole, julian_point}
 use Rattle.digits.proofs.Buffer.{room_as, room_first, room_then, laid_as, laid_then}
 use Rattle.digits.proofs.put_julian.Statement.{statement}
 use Rattle.digits.proofs.put_julian.Tie as tie
 
 alone : (c : tie.Then1) → julian_text c.before.before.before.before.before.args.ms ≡ wide 1 (c.before.before.before.julian_billionths.result / 1000000000)
-alone c = julian-whole _ _ _ _ c.before.before.before.julian_billionths.ensures c.before.before.trimmed.ensures.0 c.if1.true
+alone c = julian_whole _ _ _ _ c.before.before.before.julian_billionths.ensures c.before.before.trimmed.ensures.0 c.if1.true
 
 parted : (c : tie.Else1) → let f = c.before.before.trimmed.result in julian_text c.before.before.before.before.before.args.ms ≡ (wide 1 (c.before.before.before.julian_billionths.result / 1000000000) ++ (46 ∷ [])) ++ places f.count f.value
-parted c = julian-point _ _ _ _ c.before.before.before.julian_billionths.ensures c.before.before.trimmed.ensures.0 (omega (arith, c.if1.false))
+parted c = julian_point _ _ _ _ c.before.before.before.julian_billionths.ensures c.before.before.trimmed.ensures.0 (omega (arith, c.if1.false))
 
 julian-billionths-requires : tie.Need-julian-billionths-requires
 julian-billionths-requires c κs = search rules

@@ -4,13 +4,13 @@ use mathlib.Core.Path.{sym, ap}
 use native.Mathlib.Omega.{arith}
 use borrow.Author.Rules.{rules}
 use Rattle.rules.specs.Writing.{wide}
-use Rattle.real.proofs.Seconds.{minute-whole}
+use Rattle.real.proofs.Seconds.{minute_whole}
 use Rattle.digits.proofs.Buffer.{room_as, laid_as}
 use Rattle.digits.proofs.put_second.Statement.{statement}
 use Rattle.digits.proofs.put_second.Tie as tie
 
 few : (c : tie.After-whole) → c.whole.result ≤ 59
-few c = omega (arith, c.whole.ensures, minute-whole c.before.before.before.args.second c.before.before.before.requires.0)
+few c = omega (arith, c.whole.ensures, minute_whole c.before.before.before.args.second c.before.before.before.requires.0)
 
 whole-requires : tie.Need-whole-requires
 whole-requires c κs = search rules

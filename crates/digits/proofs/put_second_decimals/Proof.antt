@@ -3,17 +3,17 @@ use Prim.Native.Nat.{◌≤◌}
 use mathlib.Core.Path.{sym}
 use native.Mathlib.Omega.{arith}
 use borrow.Author.Rules.{rules}
-use Rattle.real.proofs.Seconds.{minute-below, minute-thousandths}
+use Rattle.real.proofs.Seconds.{minute_below, minute_thousandths}
 use Rattle.digits.proofs.Floats.{three_is}
 use Rattle.digits.proofs.Buffer.{room_as, room_first, room_then, laid_as, laid_then}
 use Rattle.digits.proofs.put_second_decimals.Statement.{statement}
 use Rattle.digits.proofs.put_second_decimals.Tie as tie
 
 few : (c : tie.After-thousandths) → c.thousandths.result ≤ 59999
-few c = omega (arith, c.thousandths.ensures, minute-thousandths c.before.before.args.second c.before.before.requires.0)
+few c = omega (arith, c.thousandths.ensures, minute_thousandths c.before.before.args.second c.before.before.requires.0)
 
 thousandths-requires : tie.Need-thousandths-requires
-thousandths-requires c κs = minute-below _ c.before.requires.0
+thousandths-requires c κs = minute_below _ c.before.requires.0
 
 cast-put-two : tie.Need-overflow-cast-put-two
 cast-put-two c = omega (arith, few c.before)

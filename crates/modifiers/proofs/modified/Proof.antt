@@ -5,7 +5,7 @@ use Rattle.rules.specs.Calls.{modifiers}
 use Rattle.moment.proofs.Bounds.{after_more}
 use Rattle.moment.specs.Held.{held}
 use Rattle.moment.specs.Ranges.{most_before, read_of}
-use Rattle.modifiers.proofs.Walks.{Going, going_start, going_on, going-stop, going_end}
+use Rattle.modifiers.proofs.Walks.{Going, going_start, going_on, going_stop, going_end}
 use Rattle.modifiers.proofs.Entries.{Entry, entry}
 use Rattle.modifiers.proofs.modified.Tie as tie
 use Rattle.modifiers.proofs.modified.Statement.{statement}
@@ -46,7 +46,7 @@ enum-known-x : tie.Need-enum-known-x invariant-loop decreases-loop
 enum-known-x c = search rules
 
 returns : tie.Need-returns invariant-loop decreases-loop
-returns c = (sym (going-stop c.before.before.before.before.before.before.before.loop.invariant (here c.before.before.before.before.before) (sym c.before.before.before.modifier.ensures.is ∙ ap read_of c.before.x.given.1)) ∙ ap (λ z. modified z 0 (modifiers c.before.before.before.before.before.before.before.before.before.args.buffer.now) (held c.before.before.before.before.before.before.before.before.before.args.p)) (to_z-of_z w64 _ c.before.before.before.before.before.before.before.before.before.ranges.offset), tt)
+returns c = (sym (going_stop c.before.before.before.before.before.before.before.loop.invariant (here c.before.before.before.before.before) (sym c.before.before.before.modifier.ensures.is ∙ ap read_of c.before.x.given.1)) ∙ ap (λ z. modified z 0 (modifiers c.before.before.before.before.before.before.before.before.before.args.buffer.now) (held c.before.before.before.before.before.before.before.before.before.args.p)) (to_z-of_z w64 _ c.before.before.before.before.before.before.before.before.before.ranges.offset), tt)
 
 add_at : tie.Need-overflow-add-at invariant-loop decreases-loop
 add_at c = omega (arith, (here c.before.before.before.before.before).inside)

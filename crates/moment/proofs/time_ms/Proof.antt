@@ -1,7 +1,7 @@
 -- `moment::time_ms` meets its contract.
 use native.Mathlib.Omega.{arith}
 use borrow.Author.Rules.{rules}
-use Rattle.real.proofs.Seconds.{minute-ms}
+use Rattle.real.proofs.Seconds.{minute_ms}
 use Rattle.moment.proofs.time_ms.Statement.{statement}
 use Rattle.moment.proofs.time_ms.Tie as tie
 
@@ -18,10 +18,10 @@ seconds-ms-requires : tie.Need-seconds-ms-requires
 seconds-ms-requires c κs = search rules
 
 add-result-2 : tie.Need-overflow-add-result-2
-add-result-2 c = omega (arith, c.seconds_ms_lem.ensures, minute-ms c.before.args.second c.before.requires.2)
+add-result-2 c = omega (arith, c.seconds_ms_lem.ensures, minute_ms c.before.args.second c.before.requires.2)
 
 returns : tie.Need-returns
-returns c = omega (arith, c.seconds_ms_lem.ensures, minute-ms c.before.args.second c.before.requires.2)
+returns c = omega (arith, c.seconds_ms_lem.ensures, minute_ms c.before.args.second c.before.requires.2)
 
 pub time-ms-spec : {M : Type 1} → statement M
 time-ms-spec =

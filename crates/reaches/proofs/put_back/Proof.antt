@@ -5,7 +5,7 @@ use lib.Seq.{length-take-le}
 use Rattle.rules.specs.Calls.{call}
 use Rattle.rules.specs.declared.Function.{Function}
 use Rattle.reaches.specs.Back.{span_of}
-use Rattle.reaches.proofs.Back.{back-room, back-text, out-text, back-short, out-short, back-refused, out-refused, said_span, no_integer, no_real, datetime-as-of}
+use Rattle.reaches.proofs.Back.{back_room, back_text, out_text, back_short, out_short, back_refused, out_refused, said_span, no_integer, no_real, datetime_as_of}
 use Rattle.reaches.proofs.put_back.Statement.{statement}
 use Rattle.reaches.proofs.put_back.Tie as tie
 
@@ -19,13 +19,13 @@ slice-reshare-prefix-datetime : tie.Need-slice-reshare-prefix-datetime
 slice-reshare-prefix-datetime c =
     let A = c.before.before.before.before.before.before.before.before.before.before.before.args in
     let s = c.before.before.before.before.before.put-span in
-    back-room A.set (call Function.Datetime) A.a.now A.b.now A.span.now A.out.now s.result s.ensures.0 _ c.before.n.given.1 _ s.ensures.1
+    back_room A.set (call Function.Datetime) A.a.now A.b.now A.span.now A.out.now s.result s.ensures.0 _ c.before.n.given.1 _ s.ensures.1
 
 slice-aggregate-datetime : tie.Need-slice-aggregate-datetime
 slice-aggregate-datetime c =
     let A = c.before.before.before.before.before.before.before.before.before.before.before.before.args in
     let s = c.before.before.before.before.before.before.put-span in
-    sym (length-take-le _ _ (back-room A.set (call Function.Datetime) A.a.now A.b.now A.span.now A.out.now s.result s.ensures.0 _ c.before.before.n.given.1 _ s.ensures.1))
+    sym (length-take-le _ _ (back_room A.set (call Function.Datetime) A.a.now A.b.now A.span.now A.out.now s.result s.ensures.0 _ c.before.before.n.given.1 _ s.ensures.1))
 
 datetime-requires : tie.Need-datetime-requires
 datetime-requires c κs = search rules
@@ -53,9 +53,9 @@ returns c =
     let A = c.before.before.before.before.before.before.before.before.before.before.before.before.before.before.before.before.args in
     let s = c.before.before.before.before.before.before.before.before.before.before.put-span in
     let d = c.before.before.datetime in
-    let r = back-text A.set (call Function.Datetime) A.a.now A.b.now A.span.now A.out.now s.result s.ensures.0 _ c.before.before.before.before.before.before.n.given.1 _ s.ensures.1 d.ensures.0 in
-    let o = out-text A.set (call Function.Datetime) A.a.now A.b.now A.span.now A.out.now s.result s.ensures.0 _ c.before.before.before.before.before.before.n.given.1 _ s.ensures.1 d.ensures.1 in
-    (r, (s.ensures.1, (o, datetime-as-of A.set A.a.now A.b.now A.span.now A.out.now r o)))
+    let r = back_text A.set (call Function.Datetime) A.a.now A.b.now A.span.now A.out.now s.result s.ensures.0 _ c.before.before.before.before.before.before.n.given.1 _ s.ensures.1 d.ensures.0 in
+    let o = out_text A.set (call Function.Datetime) A.a.now A.b.now A.span.now A.out.now s.result s.ensures.0 _ c.before.before.before.before.before.before.n.given.1 _ s.ensures.1 d.ensures.1 in
+    (r, (s.ensures.1, (o, datetime_as_of A.set A.a.now A.b.now A.span.now A.out.now r o)))
 
 same-length-3 : tie.Need-same-length-3
 same-length-3 c = search rules
@@ -64,9 +64,9 @@ returns-2 : tie.Need-returns-2
 returns-2 c =
     let A = c.before.before.before.before.before.before.before.before.before.before.before.args in
     let s = c.before.before.before.before.before.put-span in
-    let r = back-short A.set (call Function.Datetime) A.a.now A.b.now A.span.now A.out.now s.result s.ensures.0 _ c.before.n2.given.1 in
-    let o = out-short A.set (call Function.Datetime) A.a.now A.b.now A.span.now A.out.now s.result s.ensures.0 _ c.before.n2.given.1 in
-    (r, (s.ensures.1, (o, datetime-as-of A.set A.a.now A.b.now A.span.now A.out.now r o)))
+    let r = back_short A.set (call Function.Datetime) A.a.now A.b.now A.span.now A.out.now s.result s.ensures.0 _ c.before.n2.given.1 in
+    let o = out_short A.set (call Function.Datetime) A.a.now A.b.now A.span.now A.out.now s.result s.ensures.0 _ c.before.n2.given.1 in
+    (r, (s.ensures.1, (o, datetime_as_of A.set A.a.now A.b.now A.span.now A.out.now r o)))
 
 same-length-4 : tie.Need-same-length-4
 same-length-4 c = search rules
@@ -75,9 +75,9 @@ returns-3 : tie.Need-returns-3
 returns-3 c =
     let A = c.before.before.before.before.before.before.before.before.before.before.before.args in
     let s = c.before.before.before.before.before.put-span in
-    let r = back-refused A.set (call Function.Datetime) A.a.now A.b.now A.span.now A.out.now s.result s.ensures.0 _ c.before.r.given.1 in
-    let o = out-refused A.set (call Function.Datetime) A.a.now A.b.now A.span.now A.out.now s.result s.ensures.0 _ c.before.r.given.1 in
-    (r, (s.ensures.1, (o, datetime-as-of A.set A.a.now A.b.now A.span.now A.out.now r o)))
+    let r = back_refused A.set (call Function.Datetime) A.a.now A.b.now A.span.now A.out.now s.result s.ensures.0 _ c.before.r.given.1 in
+    let o = out_refused A.set (call Function.Datetime) A.a.now A.b.now A.span.now A.out.now s.result s.ensures.0 _ c.before.r.given.1 in
+    (r, (s.ensures.1, (o, datetime_as_of A.set A.a.now A.b.now A.span.now A.out.now r o)))
 
 same-length-5 : tie.Need-same-length-5
 same-length-5 c = search rules

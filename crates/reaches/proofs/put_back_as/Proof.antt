@@ -4,7 +4,7 @@ use borrow.Author.Rules.{rules}
 use lib.Seq.{length-take-le}
 use Rattle.rules.specs.Calls.{strftime}
 use Rattle.reaches.specs.Back.{span_of}
-use Rattle.reaches.proofs.Back.{back-room, back-text, out-text, back-short, out-short, back-refused, out-refused, said_span, no_integer, no_real, format-as-of}
+use Rattle.reaches.proofs.Back.{back_room, back_text, out_text, back_short, out_short, back_refused, out_refused, said_span, no_integer, no_real, format_as_of}
 use Rattle.reaches.proofs.put_back_as.Statement.{statement}
 use Rattle.reaches.proofs.put_back_as.Tie as tie
 
@@ -18,13 +18,13 @@ slice-reshare-prefix-strftime : tie.Need-slice-reshare-prefix-strftime
 slice-reshare-prefix-strftime c =
     let A = c.before.before.before.before.before.before.before.before.before.before.before.before.args in
     let s = c.before.before.before.before.before.put-span in
-    back-room A.set (strftime A.format.now) A.a.now A.b.now A.span.now A.out.now s.result s.ensures.0 _ c.before.n.given.1 _ s.ensures.1
+    back_room A.set (strftime A.format.now) A.a.now A.b.now A.span.now A.out.now s.result s.ensures.0 _ c.before.n.given.1 _ s.ensures.1
 
 slice-aggregate-strftime : tie.Need-slice-aggregate-strftime
 slice-aggregate-strftime c =
     let A = c.before.before.before.before.before.before.before.before.before.before.before.before.before.args in
     let s = c.before.before.before.before.before.before.put-span in
-    sym (length-take-le _ _ (back-room A.set (strftime A.format.now) A.a.now A.b.now A.span.now A.out.now s.result s.ensures.0 _ c.before.before.n.given.1 _ s.ensures.1))
+    sym (length-take-le _ _ (back_room A.set (strftime A.format.now) A.a.now A.b.now A.span.now A.out.now s.result s.ensures.0 _ c.before.before.n.given.1 _ s.ensures.1))
 
 strftime-requires : tie.Need-strftime-requires
 strftime-requires c κs = search rules
@@ -52,9 +52,9 @@ returns c =
     let A = c.before.before.before.before.before.before.before.before.before.before.before.before.before.before.before.before.before.args in
     let s = c.before.before.before.before.before.before.before.before.before.before.put-span in
     let d = c.before.before.strftime in
-    let r = back-text A.set (strftime A.format.now) A.a.now A.b.now A.span.now A.out.now s.result s.ensures.0 _ c.before.before.before.before.before.before.n.given.1 _ s.ensures.1 d.ensures.0 in
-    let o = out-text A.set (strftime A.format.now) A.a.now A.b.now A.span.now A.out.now s.result s.ensures.0 _ c.before.before.before.before.before.before.n.given.1 _ s.ensures.1 d.ensures.1 in
-    (r, (s.ensures.1, (o, format-as-of A.set A.a.now A.b.now A.span.now A.out.now A.format.now r o)))
+    let r = back_text A.set (strftime A.format.now) A.a.now A.b.now A.span.now A.out.now s.result s.ensures.0 _ c.before.before.before.before.before.before.n.given.1 _ s.ensures.1 d.ensures.0 in
+    let o = out_text A.set (strftime A.format.now) A.a.now A.b.now A.span.now A.out.now s.result s.ensures.0 _ c.before.before.before.before.before.before.n.given.1 _ s.ensures.1 d.ensures.1 in
+    (r, (s.ensures.1, (o, format_as_of A.set A.a.now A.b.now A.span.now A.out.now A.format.now r o)))
 
 same-length-3 : tie.Need-same-length-3
 same-length-3 c = search rules
@@ -63,9 +63,9 @@ returns-2 : tie.Need-returns-2
 returns-2 c =
     let A = c.before.before.before.before.before.before.before.before.before.before.before.before.args in
     let s = c.before.before.before.before.before.put-span in
-    let r = back-short A.set (strftime A.format.now) A.a.now A.b.now A.span.now A.out.now s.result s.ensures.0 _ c.before.n2.given.1 in
-    let o = out-short A.set (strftime A.format.now) A.a.now A.b.now A.span.now A.out.now s.result s.ensures.0 _ c.before.n2.given.1 in
-    (r, (s.ensures.1, (o, format-as-of A.set A.a.now A.b.now A.span.now A.out.now A.format.now r o)))
+    let r = back_short A.set (strftime A.format.now) A.a.now A.b.now A.span.now A.out.now s.result s.ensures.0 _ c.before.n2.given.1 in
+    let o = out_short A.set (strftime A.format.now) A.a.now A.b.now A.span.now A.out.now s.result s.ensures.0 _ c.before.n2.given.1 in
+    (r, (s.ensures.1, (o, format_as_of A.set A.a.now A.b.now A.span.now A.out.now A.format.now r o)))
 
 same-length-4 : tie.Need-same-length-4
 same-length-4 c = search rules
@@ -74,9 +74,9 @@ returns-3 : tie.Need-returns-3
 returns-3 c =
     let A = c.before.before.before.before.before.before.before.before.before.before.before.before.args in
     let s = c.before.before.before.before.before.put-span in
-    let r = back-refused A.set (strftime A.format.now) A.a.now A.b.now A.span.now A.out.now s.result s.ensures.0 _ c.before.r.given.1 in
-    let o = out-refused A.set (strftime A.format.now) A.a.now A.b.now A.span.now A.out.now s.result s.ensures.0 _ c.before.r.given.1 in
-    (r, (s.ensures.1, (o, format-as-of A.set A.a.now A.b.now A.span.now A.out.now A.format.now r o)))
+    let r = back_refused A.set (strftime A.format.now) A.a.now A.b.now A.span.now A.out.now s.result s.ensures.0 _ c.before.r.given.1 in
+    let o = out_refused A.set (strftime A.format.now) A.a.now A.b.now A.span.now A.out.now s.result s.ensures.0 _ c.before.r.given.1 in
+    (r, (s.ensures.1, (o, format_as_of A.set A.a.now A.b.now A.span.now A.out.now A.format.now r o)))
 
 same-length-5 : tie.Need-same-length-5
 same-length-5 c = search rules

@@ -5,7 +5,7 @@ use borrow.Author.Rules.{rules}
 use lib.Seq.{length-take-le}
 use Rattle.rules.specs.Calls.{bytes, timediff}
 use Rattle.rules.specs.Functions.{answer}
-use Rattle.reaches.proofs.Back.{said, text-index, text-small, short-small, text-put, short-put, refused-put, said_text, no_integer, no_real}
+use Rattle.reaches.proofs.Back.{said, text_index, text_small, short_small, text_put, short_put, refused_put, said_text, no_integer, no_real}
 use Rattle.reaches.proofs.put_span.Statement.{statement}
 use Rattle.reaches.proofs.put_span.Tie as tie
 
@@ -25,16 +25,16 @@ enum-known-n : tie.Need-enum-known-n
 enum-known-n c = search rules
 
 slice-write-span : tie.Need-slice-write-span
-slice-write-span c = text-index _ _ _ _ _ (said _ _ _) c.before.before.before.before.before.before.before.all_but_one.ensures c.before.before.before.before.before.timediff.ensures.0 c.before.before.before.before.before.timediff.ensures.1 _ c.before.n.given.1
+slice-write-span c = text_index _ _ _ _ _ (said _ _ _) c.before.before.before.before.before.before.before.all_but_one.ensures c.before.before.before.before.before.timediff.ensures.0 c.before.before.before.before.before.timediff.ensures.1 _ c.before.n.given.1
 
 add-t19 : tie.Need-overflow-add-t19
-add-t19 c = omega (arith, text-small _ _ _ _ _ (said _ _ _) c.before.before.before.before.before.before.before.all_but_one.ensures c.before.before.before.before.before.timediff.ensures.0 c.before.before.before.before.before.timediff.ensures.1 _ c.before.n.given.1)
+add-t19 c = omega (arith, text_small _ _ _ _ _ (said _ _ _) c.before.before.before.before.before.before.before.all_but_one.ensures c.before.before.before.before.before.timediff.ensures.0 c.before.before.before.before.before.timediff.ensures.1 _ c.before.n.given.1)
 
 enum-known-n-2 : tie.Need-enum-known-n-2
 enum-known-n-2 c = search rules
 
 add-t20 : tie.Need-overflow-add-t20
-add-t20 c = omega (arith, short-small _ _ _ _ _ (said _ _ _) c.before.before.before.before.before.before.before.all_but_one.ensures c.before.before.before.before.before.timediff.ensures.0 c.before.before.before.before.before.timediff.ensures.1 _ c.before.n2.given.1)
+add-t20 c = omega (arith, short_small _ _ _ _ _ (said _ _ _) c.before.before.before.before.before.before.before.all_but_one.ensures c.before.before.before.before.before.timediff.ensures.0 c.before.before.before.before.before.timediff.ensures.1 _ c.before.n2.given.1)
 
 enum-known-r : tie.Need-enum-known-r
 enum-known-r c = search rules
@@ -49,19 +49,19 @@ same_length : tie.Need-same-length
 same_length c = search rules
 
 returns : tie.Need-returns
-returns c = text-put _ _ _ _ _ (said _ _ _) c.before.before.before.before.before.before.before.all_but_one.ensures c.before.before.before.before.before.timediff.ensures.0 c.before.before.before.before.before.timediff.ensures.1 _ c.before.n.given.1
+returns c = text_put _ _ _ _ _ (said _ _ _) c.before.before.before.before.before.before.before.all_but_one.ensures c.before.before.before.before.before.timediff.ensures.0 c.before.before.before.before.before.timediff.ensures.1 _ c.before.n.given.1
 
 same-length-2 : tie.Need-same-length-2
 same-length-2 c = search rules
 
 returns-2 : tie.Need-returns-2
-returns-2 c = short-put _ _ _ _ _ (said _ _ _) c.before.before.before.before.before.before.before.all_but_one.ensures c.before.before.before.before.before.timediff.ensures.0 c.before.before.before.before.before.timediff.ensures.1 _ c.before.n2.given.1
+returns-2 c = short_put _ _ _ _ _ (said _ _ _) c.before.before.before.before.before.before.before.all_but_one.ensures c.before.before.before.before.before.timediff.ensures.0 c.before.before.before.before.before.timediff.ensures.1 _ c.before.n2.given.1
 
 same-length-3 : tie.Need-same-length-3
 same-length-3 c = search rules
 
 returns-3 : tie.Need-returns-3
-returns-3 c = refused-put _ _ _ _ _ (said _ _ _) c.before.before.before.before.before.before.before.all_but_one.ensures c.before.before.before.before.before.timediff.ensures.0 c.before.before.before.before.before.timediff.ensures.1 _ c.before.r.given.1
+returns-3 c = refused_put _ _ _ _ _ (said _ _ _) c.before.before.before.before.before.before.before.all_but_one.ensures c.before.before.before.before.before.timediff.ensures.0 c.before.before.before.before.before.timediff.ensures.1 _ c.before.r.given.1
 
 same-length-4 : tie.Need-same-length-4
 same-length-4 c = search rules

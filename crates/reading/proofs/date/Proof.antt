@@ -13,7 +13,7 @@ use Rattle.moment.specs.Ranges.{After}
 use Rattle.reading.specs.Readers.{year_month_day, ymd_of, Limits, held_year, form_of}
 use Rattle.moment.specs.Sums.{Fresh}
 use Rattle.reading.proofs.Steps.{read_as}
-use Rattle.reading.proofs.Dates.{no_date, no-time-after, date-and-time, date_unsettled, held_year_in, after_minus, no_minus}
+use Rattle.reading.proofs.Dates.{no_date, no_time_after, date_and_time, date_unsettled, held_year_in, after_minus, no_minus}
 use Rattle.reading.proofs.date.Statement.{statement}
 use Rattle.reading.proofs.date.Tie as tie
 
@@ -61,7 +61,7 @@ enum-told-2 : tie.Need-enum-told-2
 enum-told-2 c = search rules
 
 returns-2 : tie.Need-returns-2
-returns-2 c = (sym (signed c.before.before.before.before.before.before.before.before ∙ no-time-after _ _ _ _ _ _ (ymd c.before.before.before.before) (ap time_after (sym c.before.before.before.skip-gap.ensures.rest) ∙ read_as form_of c.before.before.time_after_lem.ensures.0 c.enum-told2.given.1)), tt)
+returns-2 c = (sym (signed c.before.before.before.before.before.before.before.before ∙ no_time_after _ _ _ _ _ _ (ymd c.before.before.before.before) (ap time_after (sym c.before.before.before.skip-gap.ensures.rest) ∙ read_as form_of c.before.before.time_after_lem.ensures.0 c.enum-told2.given.1)), tt)
 
 -- the record before the date
 before : (c : tie.After-known-told2) → After 0 (held c.before.p.given.0.0) × Fresh (held c.before.p.given.0.0)
@@ -83,7 +83,7 @@ returns-3 : tie.Need-returns-3
 returns-3 c =
     let d = c.before.before.before.before.before.before.before.before.before.before.y.given.0 in (
       ap got (c.settled.ensures.is ∙ ap settled (c.before.past-end.ensures.is ∙ ap past_end (c.before.before.on-date.ensures.is ∙ ap (λ (y : ℕ). set_dated (set_date (held c.before.before.before.before.before.p.given.0.0) y d.1.0 d.1.1.0) true) c.before.before.before.held-year.ensures)))
-          ∙ sym (signed c.before.before.before.before.before.before.before.before.before.before.before.before.before ∙ date-and-time (held_year c.before.before.before.before.before.before.before.before.before.before.before.before.before.before.has.result) _ _ _ _ _ (ymd c.before.before.before.before.before.before.before.before.before) _ (ap time_after (sym c.before.before.before.before.before.before.before.before.skip-gap.ensures.rest) ∙ read_as form_of c.before.before.before.before.before.before.before.time_after_lem.ensures.0 c.before.before.before.before.before.p.given.1)),
+          ∙ sym (signed c.before.before.before.before.before.before.before.before.before.before.before.before.before ∙ date_and_time (held_year c.before.before.before.before.before.before.before.before.before.before.before.before.before.before.has.result) _ _ _ _ _ (ymd c.before.before.before.before.before.before.before.before.before) _ (ap time_after (sym c.before.before.before.before.before.before.before.before.skip-gap.ensures.rest) ∙ read_as form_of c.before.before.before.before.before.before.before.time_after_lem.ensures.0 c.before.before.before.before.before.p.given.1)),
       c.settled.ensures.after 0 (c.before.past-end.ensures.after 0 (c.before.before.on-date.ensures.after 0 (before c.before.before.before.before).0)),
     )
 

@@ -5,8 +5,8 @@ use lib.ListN.{length, drop, length-drop}
 use borrow.Author.Rules.{rules}
 use Rattle.rules.specs.Basics.{got, byte, digits}
 use Rattle.text.proofs.Reading.{read_of, told_of}
-use Rattle.reading.proofs.Steps.{byte-is, byte-not}
-use Rattle.reading.proofs.Zones.{five-bytes, no-hour, no_colon, no-minute, hour-and-minute}
+use Rattle.reading.proofs.Steps.{byte_is, byte_not}
+use Rattle.reading.proofs.Zones.{five_bytes, no_hour, no_colon, no_minute, hour_and_minute}
 use Rattle.reading.proofs.hour_minute.Statement.{statement}
 use Rattle.reading.proofs.hour_minute.Tie as tie
 
@@ -14,7 +14,7 @@ left-requires : tie.Need-left-requires
 left-requires c κs = search rules
 
 returns : tie.Need-returns
-returns c = let a = c.before.before.before.args in (sym (five-bytes a.most (drop a.at a.s.now) (simp length-drop (omega arith))), tt)
+returns c = let a = c.before.before.before.args in (sym (five_bytes a.most (drop a.at a.s.now) (simp length-drop (omega arith))), tt)
 
 two-at-requires : tie.Need-two-at-requires
 two-at-requires c κs = search rules
@@ -26,7 +26,7 @@ enum_told : tie.Need-enum-told
 enum_told c = search rules
 
 returns-2 : tie.Need-returns-2
-returns-2 c = (sym (no-hour _ _ (read_of _ _ _ _ c.before.before.two_at.ensures.0 c.enum_told.given.1)), tt)
+returns-2 c = (sym (no_hour _ _ (read_of _ _ _ _ c.before.before.two_at.ensures.0 c.enum_told.given.1)), tt)
 
 -- the hour
 hour : (c : tie.After-known-told) → let a = c.before.before.before.before.before.before.before.args in let h = c.before.hour.given.0 in digits 2 0 a.most (drop a.at a.s.now) ≡ got (h.0, drop h.1.0 a.s.now)
@@ -40,11 +40,11 @@ shared-slice-read-if2 : tie.Need-shared-slice-read-if2
 shared-slice-read-if2 c = let h = colon_at c.before in omega arith
 
 returns-3 : tie.Need-returns-3
-returns-3 c = (sym (no_colon _ _ _ _ (hour c.before.before) (byte-not ":" _ _ (colon_at c.before.before).1 c.if2.true)), tt)
+returns-3 c = (sym (no_colon _ _ _ _ (hour c.before.before) (byte_not ":" _ _ (colon_at c.before.before).1 c.if2.true)), tt)
 
 -- the colon
 colon : (c : tie.Else2) → let a = c.before.before.before.before.before.before.before.before.before.args in let h = c.before.before.before.hour.given.0 in byte ":" (drop h.1.0 a.s.now) ≡ got (drop (h.1.0 + 1) a.s.now)
-colon c = byte-is ":" _ _ (colon_at c.before.before).1 c.if2.false
+colon c = byte_is ":" _ _ (colon_at c.before.before).1 c.if2.false
 
 add-two-at : tie.Need-overflow-add-two-at
 add-two-at c = let h = colon_at c.before.before in omega arith
@@ -59,13 +59,13 @@ enum-told-2 : tie.Need-enum-told-2
 enum-told-2 c = search rules
 
 returns-4 : tie.Need-returns-4
-returns-4 c = (sym (no-minute _ _ _ _ (hour c.before.before.before.before.before) _ (colon c.before.before.before) (read_of _ _ _ _ c.before.before.two-at2.ensures.0 c.enum-told2.given.1)), tt)
+returns-4 c = (sym (no_minute _ _ _ _ (hour c.before.before.before.before.before) _ (colon c.before.before.before) (read_of _ _ _ _ c.before.before.two-at2.ensures.0 c.enum-told2.given.1)), tt)
 
 returns-5 : tie.Need-returns-5
 returns-5 c =
     let h = told_of c.before.before.before.before.before.before.before.before.before.two_at.ensures.1 c.before.before.before.before.before.before.before.hour.given.1 in
     let m = told_of c.before.before.before.two-at2.ensures.1 c.before.minute.given.1 in
-    (sym (hour-and-minute _ _ _ _ (hour c.before.before.before.before.before.before) _ (colon c.before.before.before.before) _ _ (read_of _ _ _ _ c.before.before.before.two-at2.ensures.0 c.before.minute.given.1)), (h.high, m.high))
+    (sym (hour_and_minute _ _ _ _ (hour c.before.before.before.before.before.before) _ (colon c.before.before.before.before) _ _ (read_of _ _ _ _ c.before.before.before.two-at2.ensures.0 c.before.minute.given.1)), (h.high, m.high))
 
 pub hour-minute-spec : {M : Type 1} → statement M
 hour-minute-spec =

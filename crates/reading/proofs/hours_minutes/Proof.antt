@@ -8,7 +8,7 @@ use Rattle.rules.specs.Basics.{ended}
 use Rattle.rules.specs.Reading.{hours_minutes}
 use Rattle.reading.specs.Readers.{hour_minute_of, UpTo}
 use Rattle.reading.proofs.Steps.{read_as, ended_at, not_ended}
-use Rattle.reading.proofs.Zones.{no-minutes, minutes}
+use Rattle.reading.proofs.Zones.{no_minutes, minutes}
 use Rattle.reading.proofs.hours_minutes.Statement.{statement}
 use Rattle.reading.proofs.hours_minutes.Tie as tie
 
@@ -22,7 +22,7 @@ enum_told : tie.Need-enum-told
 enum_told c = search rules
 
 returns : tie.Need-returns
-returns c = (sym (no-minutes _ (read_as (hour_minute_of c.before.before.before.before.args.s.now) c.before.before.hour-minute.ensures.0 c.enum_told.given.1)), tt)
+returns c = (sym (no_minutes _ (read_as (hour_minute_of c.before.before.before.before.args.s.now) c.before.before.hour-minute.ensures.0 c.enum_told.given.1)), tt)
 
 skip-space-requires : tie.Need-skip-space-requires
 skip-space-requires c κs = search rules

@@ -15,7 +15,7 @@ use Rattle.real.proofs.Literals.{nil}
 use Rattle.text.specs.Places.{begins}
 use Rattle.text.proofs.Reading.{read_of, told_of}
 use Rattle.reading.proofs.Steps.{inside}
-use Rattle.reading.proofs.Fractions.{no_seconds, colon_at, not-digits, with-fraction, zero_minute, minute}
+use Rattle.reading.proofs.Fractions.{no_seconds, colon_at, not_digits, with_fraction, zero_minute, minute}
 use Rattle.reading.proofs.seconds.Statement.{statement}
 use Rattle.reading.proofs.seconds.Tie as tie
 
@@ -45,7 +45,7 @@ enum_told : tie.Need-enum-told
 enum_told c = search rules
 
 returns-2 : tie.Need-returns-2
-returns-2 c = (sym (after c.before.before.before ∙ not-digits _ (read_of _ _ _ _ c.before.before.two_digits.ensures.0 c.enum_told.given.1)), tt)
+returns-2 c = (sym (after c.before.before.before ∙ not_digits _ (read_of _ _ _ _ c.before.before.two_digits.ensures.0 c.enum_told.given.1)), tt)
 
 fraction-requires : tie.Need-fraction-requires
 fraction-requires c κs = search rules
@@ -60,7 +60,7 @@ returns-3 c =
     let l = drop n.1.0 s in
     let f = c.before.before.fraction.ensures in
     let t = told_of c.before.before.before.before.before.before.two_digits.ensures.1 c.before.before.before.before.n.given.1 in (
-      ap (λ (p : Float × List ℕ). got (number n.0 ⊕ p.0, p.1)) f ∙ sym (after c.before.before.before.before.before.before.before ∙ with-fraction _ _ _ (read_of _ _ _ _ c.before.before.before.before.before.before.two_digits.ensures.0 c.before.before.before.before.n.given.1)),
+      ap (λ (p : Float × List ℕ). got (number n.0 ⊕ p.0, p.1)) f ∙ sym (after c.before.before.before.before.before.before.before ∙ with_fraction _ _ _ (read_of _ _ _ _ c.before.before.before.before.before.before.two_digits.ensures.0 c.before.before.before.before.n.given.1)),
       λ h. ap (λ (p : Float × List ℕ). in_minute (number n.0 ⊕ p.0)) f ∙ minute n.0 t.high l (simp length-drop (omega arith)),
     )
 

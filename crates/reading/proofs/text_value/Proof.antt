@@ -4,7 +4,7 @@ use Rattle.rules.specs.Reading.{date_form, time_form}
 use Rattle.rules.specs.Reading.{now as now·rule}
 use Rattle.reading.specs.Readers.{form_of}
 use Rattle.reading.proofs.Steps.{read_as}
-use Rattle.reading.proofs.Values.{is-date, is-time, is-now, is_last}
+use Rattle.reading.proofs.Values.{is_date, is_time, is_now, is_last}
 use borrow.Author.Rules.{rules}
 use Rattle.reading.proofs.text_value.Statement.{statement}
 use Rattle.reading.proofs.text_value.Tie as tie
@@ -16,7 +16,7 @@ enum-known-p : tie.Need-enum-known-p
 enum-known-p c = search rules
 
 returns : tie.Need-returns
-returns c = let a = c.before.before.before.before.before.args in (sym (is-date a.clock a.s.now _ (read_as form_of c.before.before.before.date.ensures.0 c.before.p.given.1)), rw c.before.p.given.1 at c.before.before.before.date.ensures.1)
+returns c = let a = c.before.before.before.before.before.args in (sym (is_date a.clock a.s.now _ (read_as form_of c.before.before.before.date.ensures.0 c.before.p.given.1)), rw c.before.p.given.1 at c.before.before.before.date.ensures.1)
 
 enum_told : tie.Need-enum-told
 enum_told c = search rules
@@ -31,7 +31,7 @@ undated : (c : tie.After-enum-told) → date_form c.before.before.before.before.
 undated c = read_as form_of c.before.before.date.ensures.0 c.enum_told.given.1
 
 returns-2 : tie.Need-returns-2
-returns-2 c = let a = c.before.before.before.before.before.before.before.before.args in (sym (is-time a.clock a.s.now (undated c.before.before.before.before) _ (read_as form_of c.before.before.before.time-alone.ensures.0 c.before.p2.given.1)), rw c.before.p2.given.1 at c.before.before.before.time-alone.ensures.1.0)
+returns-2 c = let a = c.before.before.before.before.before.before.before.before.args in (sym (is_time a.clock a.s.now (undated c.before.before.before.before) _ (read_as form_of c.before.before.before.time-alone.ensures.0 c.before.p2.given.1)), rw c.before.p2.given.1 at c.before.before.before.time-alone.ensures.1.0)
 
 enum-told-2 : tie.Need-enum-told-2
 enum-told-2 c = search rules
@@ -52,7 +52,7 @@ untimed : (c : tie.After-enum-told2) → time_form c.before.before.before.before
 untimed c = read_as form_of c.before.before.time-alone.ensures.0 c.enum-told2.given.1
 
 returns-3 : tie.Need-returns-3
-returns-3 c = let a = c.before.before.before.before.before.before.before.before.before.before.before.before.args in (ap got (c.now.ensures.is ∙ ap (now·rule a.clock) c.before.blank.ensures.0) ∙ sym (is-now a.clock a.s.now (undated c.before.before.before.before.before.before.before.before) (untimed c.before.before.before.before.before) (sym c.before.before.before.is_IsWord.ensures ∙ c.before.before.if1.true)), c.now.ensures.after 0 c.before.blank.ensures.1)
+returns-3 c = let a = c.before.before.before.before.before.before.before.before.before.before.before.before.args in (ap got (c.now.ensures.is ∙ ap (now·rule a.clock) c.before.blank.ensures.0) ∙ sym (is_now a.clock a.s.now (undated c.before.before.before.before.before.before.before.before) (untimed c.before.before.before.before.before) (sym c.before.before.before.is_IsWord.ensures ∙ c.before.before.if1.true)), c.now.ensures.after 0 c.before.blank.ensures.1)
 
 number-value-requires : tie.Need-number-value-requires
 number-value-requires c κs = search rules

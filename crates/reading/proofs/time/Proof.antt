@@ -8,7 +8,7 @@ use Rattle.rules.specs.Basics.{got}
 use Rattle.rules.specs.Reading as rule
 use Rattle.reading.specs.Readers.{hour_minute, hour_minute_of, zone_of, seconds_of, InZones}
 use Rattle.reading.proofs.Steps.{read_as}
-use Rattle.reading.proofs.Times.{no-hour-minute, no_second, no-zone-after, time_of_lem}
+use Rattle.reading.proofs.Times.{no_hour_minute, no_second, no_zone_after, time_of_lem}
 use Rattle.reading.proofs.time.Statement.{statement}
 use Rattle.reading.proofs.time.Tie as tie
 
@@ -22,7 +22,7 @@ enum_told : tie.Need-enum-told
 enum_told c = search rules
 
 returns : tie.Need-returns
-returns c = (sym (no-hour-minute _ (read_as (hour_minute_of c.before.before.before.before.args.s.now) c.before.before.hour-minute.ensures.0 c.enum_told.given.1)), tt)
+returns c = (sym (no_hour_minute _ (read_as (hour_minute_of c.before.before.before.before.args.s.now) c.before.before.hour-minute.ensures.0 c.enum_told.given.1)), tt)
 
 -- the hour and the minute
 first : (c : tie.After-known-told) → let a = c.before.before.before.before.before.args in let h = c.before.hour.given.0 in hour_minute 24 (drop a.at a.s.now) ≡ got (h.0, h.1.0, drop h.1.1.0 a.s.now)
@@ -54,7 +54,7 @@ enum-told-3 : tie.Need-enum-told-3
 enum-told-3 c = search rules
 
 returns-3 : tie.Need-returns-3
-returns-3 c = (sym (no-zone-after _ _ _ _ (first c.before.before.before.before.before.before.before) _ _ (second c.before.before.before) (read_as zone_of c.before.before.zone.ensures.0 c.enum-told3.given.1)), tt)
+returns-3 c = (sym (no_zone_after _ _ _ _ (first c.before.before.before.before.before.before.before) _ _ (second c.before.before.before) (read_as zone_of c.before.before.zone.ensures.0 c.enum-told3.given.1)), tt)
 
 returns-4 : tie.Need-returns-4
 returns-4 c =

@@ -8,7 +8,7 @@ use borrow.Author.Rules.{rules}
 use Rattle.rules.specs.Basics.{skip}
 use Rattle.rules.specs.Reading.{space, zone_in}
 use Rattle.reading.proofs.Steps.{at_byte}
-use Rattle.reading.proofs.Zones.{no_zone_lem, zone-upper, zone-lower, zone-east, zone-west, zone-other}
+use Rattle.reading.proofs.Zones.{no_zone_lem, zone_upper, zone_lower, zone_east, zone_west, zone_other}
 use Rattle.reading.proofs.zone.Statement.{statement}
 use Rattle.reading.proofs.zone.Tie as tie
 
@@ -48,16 +48,16 @@ west-requires : tie.Need-west-requires
 west-requires c κs = search rules
 
 returns-2 : tie.Need-returns-2
-returns-2 c = (c.zulu.ensures.0 ∙ sym (⊎_elim (λ e. begins c.before.before 90 e ∙ zone-upper _) (λ e. begins c.before.before 122 e ∙ zone-lower _) c.before.match.keys1), c.zulu.ensures.1)
+returns-2 c = (c.zulu.ensures.0 ∙ sym (⊎_elim (λ e. begins c.before.before 90 e ∙ zone_upper _) (λ e. begins c.before.before 122 e ∙ zone_lower _) c.before.match.keys1), c.zulu.ensures.1)
 
 returns-3 : tie.Need-returns-3
-returns-3 c = (c.east.ensures.0 ∙ sym (begins c.before.before 43 c.before.match.keys2 ∙ zone-east _), c.east.ensures.1)
+returns-3 c = (c.east.ensures.0 ∙ sym (begins c.before.before 43 c.before.match.keys2 ∙ zone_east _), c.east.ensures.1)
 
 returns-4 : tie.Need-returns-4
-returns-4 c = (c.west.ensures.0 ∙ sym (begins c.before.before 45 c.before.match.keys3 ∙ zone-west _), c.west.ensures.1)
+returns-4 c = (c.west.ensures.0 ∙ sym (begins c.before.before 45 c.before.match.keys3 ∙ zone_west _), c.west.ensures.1)
 
 returns-5 : tie.Need-returns-5
-returns-5 c = (sym (first c.before ∙ zone-other _ _ (let h = c.match.rest in (λ e. h.0.0.1 (inl e), λ e. h.0.0.1 (inr e), h.0.1, h.1))), tt)
+returns-5 c = (sym (first c.before ∙ zone_other _ _ (let h = c.match.rest in (λ e. h.0.0.1 (inl e), λ e. h.0.0.1 (inr e), h.0.1, h.1))), tt)
 
 pub zone-spec : {M : Type 1} → statement M
 zone-spec =

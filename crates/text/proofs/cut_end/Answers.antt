@@ -7,7 +7,7 @@ use lib.ListN.{length, drop}
 use borrow.Author.Tests.{not-true, not-false}
 use Rattle.rules.specs.Basics.{trim_end}
 use Rattle.text.specs.Places.{part, passes}
-use Rattle.text.proofs.Runs.{part_all, cut_on, cut-stop, cut_none}
+use Rattle.text.proofs.Runs.{part_all, cut_on, cut_stop, cut_none}
 use borrow.Author.Rules.{rules}
 use Rattle.text.proofs.cut_end.Goals as goal
 
@@ -17,7 +17,7 @@ loop-end-init c = (search rules, search rules, rw (part_all c.args.s.now c.args.
 pub returns-then-not-is_of : goal.returns-then-not-is_of
 returns-then-not-is_of c = let l = c.loop-end in
     let e = sym c.is_of.ensures ∙ c.if-not-is_of.true in
-    record { result_value = sym (l.invariant.2 ∙ cut-stop _ _ _ _ c.loop-end-test.true l.invariant.1 e); lower_bound = (l.invariant.0, l.invariant.1) }
+    record { result_value = sym (l.invariant.2 ∙ cut_stop _ _ _ _ c.loop-end-test.true l.invariant.1 e); lower_bound = (l.invariant.0, l.invariant.1) }
 
 pub loop-end-preserved : goal.loop-end-preserved
 loop-end-preserved c = let l = c.loop-end in

@@ -7,7 +7,7 @@ use lib.ListN.{length, drop}
 use borrow.Author.Tests.{not-true, not-false}
 use Rattle.rules.specs.Basics.{trim_end}
 use Rattle.text.specs.Places.{part, passes}
-use Rattle.text.proofs.Runs.{part_all, cut_on, cut-stop, cut_none}
+use Rattle.text.proofs.Runs.{part_all, cut_on, cut_stop, cut_none}
 use Rattle.text.proofs.cut_end.Given as goal
 
 abbrev pub invariant-loop-end : goal.invariant-loop-end

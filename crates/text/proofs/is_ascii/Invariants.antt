@@ -8,7 +8,7 @@ use lib.Dec.{leb}
 use lib.ListN.{length, drop}
 use borrow.Author.Tests.{le-leb, lt-leb}
 use Rattle.rules.specs.Basics.{every}
-use Rattle.text.proofs.Runs.{flag-set, flag-on, flag-past}
+use Rattle.text.proofs.Runs.{flag_set, flag_on, flag_past}
 use Rattle.text.proofs.is_ascii.Given as goal
 
 abbrev pub invariant-loop-i : goal.invariant-loop-i

@@ -4,7 +4,7 @@ use mathlib.Core.Path.{◌≡◌, refl, sym, ◌∙◌}
 use lib.ListN.{length}
 use borrow.Author.Tests.{not-true, not-false}
 use Rattle.text.specs.Places.{passes, end_at}
-use Rattle.text.proofs.Runs.{end_on, end-stop, end_past, passed}
+use Rattle.text.proofs.Runs.{end_on, end_stop, end_past, passed}
 use borrow.Author.Rules.{rules}
 use Rattle.text.proofs.run_end.Goals as goal
 
@@ -13,7 +13,7 @@ loop-i-init c = refl
 
 pub returns-then-not-is_of : goal.returns-then-not-is_of
 returns-then-not-is_of c = let e = sym c.is_of.ensures ∙ c.if-not-is_of.true in
-    passed _ _ _ _ (c.loop-i.invariant ∙ end-stop _ _ _ c.loop-i-test.true e)
+    passed _ _ _ _ (c.loop-i.invariant ∙ end_stop _ _ _ c.loop-i-test.true e)
 
 pub loop-i-preserved : goal.loop-i-preserved
 loop-i-preserved c = let e = sym c.is_of.ensures ∙ c.if-not-is_of.false in

@@ -4,7 +4,7 @@ use mathlib.Core.Path.{◌≡◌, refl, sym, ◌∙◌}
 use lib.ListN.{length}
 use borrow.Author.Tests.{not-true, not-false}
 use Rattle.text.specs.Places.{passes, end_at}
-use Rattle.text.proofs.Runs.{end_on, end-stop, end_past, passed}
+use Rattle.text.proofs.Runs.{end_on, end_stop, end_past, passed}
 use Rattle.text.proofs.run_end.Given as goal
 
 abbrev pub invariant-loop-i : goal.invariant-loop-i

@@ -5,7 +5,7 @@ use native.Mathlib.Omega.{arith}
 use lib.ListN.{length}
 use borrow.Author.Tests.{eq-eqb, ne_eqb}
 use Rattle.text.specs.Places.{leads}
-use Rattle.text.proofs.Words.{ahead, ahead_none, ahead-on, ahead-stop, ahead_past, leads_short}
+use Rattle.text.proofs.Words.{ahead, ahead_none, ahead_on, ahead_stop, ahead_past, leads_short}
 use borrow.Author.Rules.{rules}
 use Rattle.text.proofs.starts.Goals as goal
 
@@ -17,11 +17,11 @@ loop-i-init c = ahead_none _ _
 
 pub returns-then-w-i : goal.returns-then-w-i
 returns-then-w-i c = let e = ne_eqb _ _ (λ e. c.if-w-i.true (e ∙ sym c.lower.ensures)) in
-    sym (c.loop-i.invariant ∙ ahead-stop _ _ _ c.loop-i-test.true (omega arith) e)
+    sym (c.loop-i.invariant ∙ ahead_stop _ _ _ c.loop-i-test.true (omega arith) e)
 
 pub loop-i-preserved : goal.loop-i-preserved
 loop-i-preserved c = let e = eq-eqb _ _ (c.if-w-i.false ∙ c.lower.ensures) in
-    c.loop-i.invariant ∙ ahead-on _ _ _ c.loop-i-test.true (omega arith) e
+    c.loop-i.invariant ∙ ahead_on _ _ _ c.loop-i-test.true (omega arith) e
 
 pub returns : goal.returns
 returns c = sym (c.loop-i.invariant ∙ ahead_past _ _ _ c.loop-i-test.false)

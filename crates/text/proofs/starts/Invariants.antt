@@ -5,7 +5,7 @@ use native.Mathlib.Omega.{arith}
 use lib.ListN.{length}
 use borrow.Author.Tests.{eq-eqb, ne_eqb}
 use Rattle.text.specs.Places.{leads}
-use Rattle.text.proofs.Words.{ahead, ahead_none, ahead-on, ahead-stop, ahead_past, leads_short}
+use Rattle.text.proofs.Words.{ahead, ahead_none, ahead_on, ahead_stop, ahead_past, leads_short}
 use Rattle.text.proofs.starts.Given as goal
 
 abbrev pub invariant-loop-i : goal.invariant-loop-i

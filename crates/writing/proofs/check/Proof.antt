@@ -11,7 +11,7 @@ use Rattle.rules.specs.Writing.{letter}
 use Rattle.writing.specs.Formats.{CheckIs, most}
 use Rattle.writing.specs.declared.Checked.{Checked}
 use Rattle.writing.specs.declared.Checked.TheVariants.{Most, Refused}
-use Rattle.writing.proofs.Loops.{Bounded, bounded-start, bounded-plain, bounded-letter, bounded-refused, bounded-last, bounded-end}
+use Rattle.writing.proofs.Loops.{Bounded, bounded_start, bounded_plain, bounded_letter, bounded_refused, bounded_last, bounded_end}
 use Rattle.writing.proofs.check.Statement.{statement}
 use Rattle.writing.proofs.check.Tie as tie
 
@@ -38,7 +38,7 @@ refused : (c : tie.After-known-told2 invariant-loop decreases-loop) → CheckIs 
 refused c = subst (λ (r : Checked). CheckIs (here c.before.before.before) (most (byte c.before.before.before)) r) c.before.r.given.1 c.before.before.before.check-letter.ensures
 
 loop-holds : tie.Need-loop-init invariant-loop decreases-loop
-loop-holds c = bounded-start _ _
+loop-holds c = bounded_start _ _
 
 shared-slice-read-if1 : tie.Need-shared-slice-read-if1 invariant-loop decreases-loop
 shared-slice-read-if1 c = search rules
@@ -53,13 +53,13 @@ loop-less : tie.Need-loop-smaller invariant-loop decreases-loop
 loop-less c = omega arith
 
 loop-again : tie.Need-loop-preserved invariant-loop decreases-loop
-loop-again c = bounded-plain _ _ _ _ c.before.before.before.loop.invariant c.before.before.loop-test.true c.if1.true
+loop-again c = bounded_plain _ _ _ _ c.before.before.before.loop.invariant c.before.before.loop-test.true c.if1.true
 
 add-if2 : tie.Need-overflow-add-if2 invariant-loop decreases-loop
 add-if2 c = search rules
 
 returns : tie.Need-returns invariant-loop decreases-loop
-returns c = bounded-last _ _ _ _ c.before.before.before.before.loop.invariant (sym c.if2.true) c.before.if1.false _
+returns c = bounded_last _ _ _ _ c.before.before.before.before.loop.invariant (sym c.if2.true) c.before.if1.false _
 
 add-check-letter : tie.Need-overflow-add-check-letter invariant-loop decreases-loop
 add-check-letter c = search rules
@@ -74,13 +74,13 @@ enum-known-n : tie.Need-enum-known-n invariant-loop decreases-loop
 enum-known-n c = search rules
 
 add-most-2 : tie.Need-overflow-add-most-2 invariant-loop decreases-loop
-add-most-2 c = omega (arith, c.before.before.before.before.before.before.before.before.before.before.before.requires.1, c.before.before.before.before.before.before.before.before.before.loop.invariant.few, (bounded-letter _ _ _ _ c.before.before.before.before.before.before.before.before.before.loop.invariant (two c.before.before.before.before.before) c.before.before.before.before.before.before.if1.false _ (bound c)).few, c.before.before.before.before.before.before.before.before.loop-test.true)
+add-most-2 c = omega (arith, c.before.before.before.before.before.before.before.before.before.before.before.requires.1, c.before.before.before.before.before.before.before.before.before.loop.invariant.few, (bounded_letter _ _ _ _ c.before.before.before.before.before.before.before.before.before.loop.invariant (two c.before.before.before.before.before) c.before.before.before.before.before.before.if1.false _ (bound c)).few, c.before.before.before.before.before.before.before.before.loop-test.true)
 
 enum-known-r : tie.Need-enum-known-r invariant-loop decreases-loop
 enum-known-r c = search rules
 
 returns-2 : tie.Need-returns-2 invariant-loop decreases-loop
-returns-2 c = bounded-refused _ _ _ _ c.before.before.before.before.before.before.before.before.before.loop.invariant (two c.before.before.before.before.before) c.before.before.before.before.before.before.if1.false _ _ (refused c)
+returns-2 c = bounded_refused _ _ _ _ c.before.before.before.before.before.before.before.before.before.loop.invariant (two c.before.before.before.before.before) c.before.before.before.before.before.before.if1.false _ _ (refused c)
 
 add-i-2 : tie.Need-overflow-add-i-2 invariant-loop decreases-loop
 add-i-2 c = omega (arith, two c.before.before.before.before.before)
@@ -89,10 +89,10 @@ loop-less-2 : tie.Need-loop-smaller-2 invariant-loop decreases-loop
 loop-less-2 c = omega (arith, two c.before.before.before.before.before)
 
 loop-again-2 : tie.Need-loop-preserved-2 invariant-loop decreases-loop
-loop-again-2 c = bounded-letter _ _ _ _ c.before.before.before.before.before.before.before.before.before.loop.invariant (two c.before.before.before.before.before) c.before.before.before.before.before.before.if1.false _ (bound c)
+loop-again-2 c = bounded_letter _ _ _ _ c.before.before.before.before.before.before.before.before.before.loop.invariant (two c.before.before.before.before.before) c.before.before.before.before.before.before.if1.false _ (bound c)
 
 returns-3 : tie.Need-returns-3 invariant-loop decreases-loop
-returns-3 c = bounded-end _ _ _ _ c.before.loop.invariant c.loop-test.false
+returns-3 c = bounded_end _ _ _ _ c.before.loop.invariant c.loop-test.false
 
 pub check-spec : {M : Type 1} → statement M
 check-spec =

@@ -14,7 +14,7 @@ use Rattle.moment.specs.Held.{held}
 use Rattle.digits.proofs.Lengths.{length_julian}
 use Rattle.writing.specs.Formats.{text_of, IsText, CheckIs, mosts, most_in, most}
 use Rattle.writing.specs.declared.Checked.TheVariants.{Most}
-use Rattle.writing.proofs.Letters.{no-letter, a-letter, most-length}
+use Rattle.writing.proofs.Letters.{no_letter, a_letter, most_length}
 use Rattle.writing.proofs.Texts.{julian_early, julian_late}
 use Rattle.writing.proofs.check_letter.Statement.{statement}
 use Rattle.writing.proofs.check_letter.Tie as tie
@@ -41,10 +41,10 @@ letter-most-requires : tie.Need-letter-most-requires
 letter-most-requires c κs = search rules
 
 returns-3 : tie.Need-returns-3
-returns-3 c = let s = c.before.before.before in rw (no-letter (held s.args.p) s.requires s.args.c (sym c.before.letter_most.ensures.0 ∙ c.if3.true)) refl
+returns-3 c = let s = c.before.before.before in rw (no_letter (held s.args.p) s.requires s.args.c (sym c.before.letter_most.ensures.0 ∙ c.if3.true)) refl
 
 returns-4 : tie.Need-returns-4
-returns-4 c = let s = c.before.before.before in let p = held s.args.p in let m = c.before.letter_most.ensures in is_most (letter s.args.c p) (most s.args.c) _ (a-letter p s.requires s.args.c (λ z. c.if3.false (m.0 ∙ z)) c.before.before.if1.false) (rw m.0 (most-length p s.requires s.args.c)) m.0
+returns-4 c = let s = c.before.before.before in let p = held s.args.p in let m = c.before.letter_most.ensures in is_most (letter s.args.c p) (most s.args.c) _ (a_letter p s.requires s.args.c (λ z. c.if3.false (m.0 ∙ z)) c.before.before.if1.false) (rw m.0 (most_length p s.requires s.args.c)) m.0
 
 pub check-letter-spec : {M : Type 1} → statement M
 check-letter-spec = tie.close (tie.spec returns returns-2 letter-most-requires returns-3 returns-4)

@@ -4,7 +4,7 @@ use native.Mathlib.Omega.{arith}
 use borrow.Author.Rules.{rules}
 use lib.ListN.{length}
 use Rattle.moment.specs.Held.{held}
-use Rattle.writing.proofs.Loops.{Counted, counted_start, counted-plain, counted-two, counted-letter, counted-end}
+use Rattle.writing.proofs.Loops.{Counted, counted_start, counted_plain, counted_two, counted_letter, counted_end}
 use Rattle.writing.proofs.format_length.Statement.{statement}
 use Rattle.writing.proofs.format_length.Tie as tie
 
@@ -15,7 +15,7 @@ abbrev decreases-loop : tie.decreases-loop
 decreases-loop p format i₀ n₀ i n = length format - i
 
 two : (c : tie.Else1 invariant-loop decreases-loop) → c.before.before.before.loop.i + 1 < length c.before.before.before.before.before.args.format.now
-two c = counted-two _ _ c.before.before.before.before.before.requires.1.1 _ _ c.before.before.before.loop.invariant c.before.before.loop-test.true c.if1.false
+two c = counted_two _ _ c.before.before.before.before.before.requires.1.1 _ _ c.before.before.before.loop.invariant c.before.before.loop-test.true c.if1.false
 
 loop-holds : tie.Need-loop-init invariant-loop decreases-loop
 loop-holds c = counted_start _ _
@@ -33,7 +33,7 @@ loop-less : tie.Need-loop-smaller invariant-loop decreases-loop
 loop-less c = omega arith
 
 loop-again : tie.Need-loop-preserved invariant-loop decreases-loop
-loop-again c = counted-plain _ _ c.before.before.before.before.before.requires.1.1 _ _ c.before.before.before.loop.invariant c.before.before.loop-test.true c.if1.true
+loop-again c = counted_plain _ _ c.before.before.before.before.before.requires.1.1 _ _ c.before.before.before.loop.invariant c.before.before.loop-test.true c.if1.true
 
 add-letter-length : tie.Need-overflow-add-letter-length invariant-loop decreases-loop
 add-letter-length c = search rules
@@ -54,10 +54,10 @@ loop-less-2 : tie.Need-loop-smaller-2 invariant-loop decreases-loop
 loop-less-2 c = omega (arith, two c.before.before)
 
 loop-again-2 : tie.Need-loop-preserved-2 invariant-loop decreases-loop
-loop-again-2 c = counted-letter _ _ c.before.before.before.before.before.before.before.requires.1.1 _ _ c.before.before.before.before.before.loop.invariant c.before.before.before.before.loop-test.true c.before.before.if1.false _ c.letter-length.ensures.0 c.letter-length.ensures.1
+loop-again-2 c = counted_letter _ _ c.before.before.before.before.before.before.before.requires.1.1 _ _ c.before.before.before.before.before.loop.invariant c.before.before.before.before.loop-test.true c.before.before.if1.false _ c.letter-length.ensures.0 c.letter-length.ensures.1
 
 returns : tie.Need-returns invariant-loop decreases-loop
-returns c = counted-end _ _ c.before.before.before.requires.1.1 _ _ c.before.loop.invariant c.loop-test.false
+returns c = counted_end _ _ c.before.before.before.requires.1.1 _ _ c.before.loop.invariant c.loop-test.false
 
 pub format-length-spec : {M : Type 1} → statement M
 format-length-spec =

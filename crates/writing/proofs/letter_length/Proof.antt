@@ -9,7 +9,7 @@ use Rattle.moment.specs.Held.{held}
 use Rattle.digits.proofs.Lengths.{length_year}
 use Rattle.writing.specs.Formats.{text_of}
 use Rattle.writing.proofs.Lengths.{length_date}
-use Rattle.writing.proofs.Letters.{seventeen, exact-length}
+use Rattle.writing.proofs.Letters.{seventeen, exact_length}
 use Rattle.writing.proofs.letter_length.Statement.{statement}
 use Rattle.writing.proofs.letter_length.Tie as tie
 use Rattle.writing.proofs.Fields as field
@@ -75,7 +75,7 @@ unfolding letter letters writer
 returns-6 c = answer c.before.before _ 89 c.before.match.keys6 c.year-length3.ensures
 
 returns-7 : tie.Need-returns-7
-returns-7 c = let e = c.letter_most.ensures in (e.0 ∙ sym (exact-length (held c.before.before.args.p) c.before.before.requires c.before.before.args.c c.before.match.rest), e.1)
+returns-7 c = let e = c.letter_most.ensures in (e.0 ∙ sym (exact_length (held c.before.before.args.p) c.before.before.requires c.before.before.args.c c.before.match.rest), e.1)
 
 pub letter-length-spec : {M : Type 1} → statement M
 letter-length-spec =

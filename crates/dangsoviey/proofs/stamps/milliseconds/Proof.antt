@@ -5,7 +5,7 @@ use mir.Syntax.{w64}
 use mir.ValLaws.{to_z-of_z}
 use Rattle.datetime.specs.Opened.{Ready}
 use Rattle.datetime.proofs.Answers.{landed}
-use Rattle.dangsoviey.proofs.Milliseconds.{milliseconds-next, milliseconds-refused}
+use Rattle.dangsoviey.proofs.Milliseconds.{milliseconds_next, milliseconds_refused}
 use Rattle.dangsoviey.proofs.stamps.milliseconds.Statement.{statement}
 use Rattle.dangsoviey.proofs.stamps.milliseconds.Tie as tie
 
@@ -22,10 +22,10 @@ enum-known-r : tie.Need-enum-known-r
 enum-known-r c = search rules
 
 returns : tie.Need-returns
-returns c = milliseconds-next _ _ _ _ c.before.before.before.before.moment-of.ensures.0 _ c.before.before.p.given.1 (to_z-of_z w64 _ (record { sfits = c.since-epoch.type-inv }) ∙ c.since-epoch.ensures)
+returns c = milliseconds_next _ _ _ _ c.before.before.before.before.moment-of.ensures.0 _ c.before.before.p.given.1 (to_z-of_z w64 _ (record { sfits = c.since-epoch.type-inv }) ∙ c.since-epoch.ensures)
 
 returns-2 : tie.Need-returns-2
-returns-2 c = milliseconds-refused _ _ _ _ c.before.before.before.moment-of.ensures.0 _ c.before.r.given.1
+returns-2 c = milliseconds_refused _ _ _ _ c.before.before.before.moment-of.ensures.0 _ c.before.r.given.1
 
 pub milliseconds-spec : {M : Type 1} → statement M
 milliseconds-spec =

@@ -5,8 +5,8 @@ use Rattle.rules.specs.Functions.{present}
 use Rattle.rules.specs.Reading.{time_value}
 use Rattle.moment.specs.Ranges.{After, Lands, read_of}
 use Rattle.moment.specs.declared.Step.{Step}
-use Rattle.datetime.proofs.Faults.{clock-good}
-use Rattle.datetime.proofs.Instants.{present-read, present-short, instants-are, no_second, no-first}
+use Rattle.datetime.proofs.Faults.{clock_good}
+use Rattle.datetime.proofs.Instants.{present_read, present_short, instants_are, no_second, no_first}
 use borrow.Author.Rules.{rules}
 use Rattle.datetime.proofs.calls.both.Statement.{statement}
 use Rattle.datetime.proofs.calls.both.Tie as tie
@@ -18,16 +18,16 @@ abbrev two : tie.Start → Value
 two d = value_of d.args.given-b d.args.b.now
 
 first : (c : tie.After-time-value) → let d = c.before.before.before.before in read_of c.time-value.result ≡ time_value d.args.set.clock (present (one d))
-first c = let d = c.before.before.before.before in c.time-value.ensures.0 ∙ present-read d.args.given-a d.args.a.now d.args.set.clock c.before.present.ensures
+first c = let d = c.before.before.before.before in c.time-value.ensures.0 ∙ present_read d.args.given-a d.args.a.now d.args.set.clock c.before.present.ensures
 
 second : (c : tie.After-time-value2) → let d = c.before.before.before.before.before.before.before.before.before in read_of c.time-value2.result ≡ time_value d.args.set.clock (present (two d))
-second c = let d = c.before.before.before.before.before.before.before.before.before in c.time-value2.ensures.0 ∙ present-read d.args.given-b d.args.b.now d.args.set.clock c.before.present2.ensures
+second c = let d = c.before.before.before.before.before.before.before.before.before in c.time-value2.ensures.0 ∙ present_read d.args.given-b d.args.b.now d.args.set.clock c.before.present2.ensures
 
 present-requires : tie.Need-present-requires
 present-requires c κs = search rules
 
 time-value-requires : tie.Need-time-value-requires
-time-value-requires c κs = let d = c.before.before.before in (present-short d.args.given-a d.args.a.now c.present.ensures d.requires.0, clock-good d.args.set d.requires.2)
+time-value-requires c κs = let d = c.before.before.before in (present_short d.args.given-a d.args.a.now c.present.ensures d.requires.0, clock_good d.args.set d.requires.2)
 
 enum-known-p : tie.Need-enum-known-p
 enum-known-p c = search rules
@@ -36,7 +36,7 @@ present-requires-2 : tie.Need-present-requires-2
 present-requires-2 c κs = search rules
 
 time-value-requires-2 : tie.Need-time-value-requires-2
-time-value-requires-2 c κs = let d = c.before.before.before.before.before.before.before.before in (present-short d.args.given-b d.args.b.now c.present2.ensures d.requires.1, clock-good d.args.set d.requires.2)
+time-value-requires-2 c κs = let d = c.before.before.before.before.before.before.before.before in (present_short d.args.given-b d.args.b.now c.present2.ensures d.requires.1, clock_good d.args.set d.requires.2)
 
 enum-known-q : tie.Need-enum-known-q
 enum-known-q c = search rules
@@ -52,7 +52,7 @@ enum-known-r-2 c = search rules
 
 returns : tie.Need-returns
 returns c = let d = c.before.before.before.before.before.before.before.before.before.before.before.before.before in
-    (c.both-ranged.ensures.0 ∙ sym (instants-are d.args.set (one d) (two d) (sym (first c.before.before.before.before.before.before.before.before.before) ∙ ap read_of c.before.before.before.before.before.before.before.p.given.1) (sym (second c.before.before.before.before) ∙ ap read_of c.before.before.q.given.1)), c.both-ranged.ensures.1)
+    (c.both-ranged.ensures.0 ∙ sym (instants_are d.args.set (one d) (two d) (sym (first c.before.before.before.before.before.before.before.before.before) ∙ ap read_of c.before.before.before.before.before.before.before.p.given.1) (sym (second c.before.before.before.before) ∙ ap read_of c.before.before.q.given.1)), c.both-ranged.ensures.1)
 
 returns-2 : tie.Need-returns-2
 returns-2 c = let d = c.before.before.before.before.before.before.before.before.before.before.before.before in
@@ -60,7 +60,7 @@ returns-2 c = let d = c.before.before.before.before.before.before.before.before.
 
 returns-3 : tie.Need-returns-3
 returns-3 c = let d = c.before.before.before.before.before.before.before in
-    (sym (no-first d.args.set (one d) (two d) (sym (first c.before.before.before) ∙ ap read_of c.before.r2.given.1)), tt)
+    (sym (no_first d.args.set (one d) (two d) (sym (first c.before.before.before) ∙ ap read_of c.before.r2.given.1)), tt)
 
 pub both-spec : {M : Type 1} → statement M
 both-spec =

@@ -4,7 +4,7 @@ use mathlib.Core.Path.{◌≡◌, sym, ◌∙◌}
 use borrow.Author.Tests.{not-true, not-false}
 use Rattle.moment.specs.Held.{held}
 use Rattle.moment.proofs.Modifiers.{passes, range_lands}
-use Rattle.datetime.proofs.Instants.{both-are, second-out, first_out}
+use Rattle.datetime.proofs.Instants.{both_are, second_out, first_out}
 use borrow.Author.Rules.{rules}
 use Rattle.datetime.proofs.calls.both_ranged.Statement.{statement}
 use Rattle.datetime.proofs.calls.both_ranged.Tie as tie
@@ -39,7 +39,7 @@ returns-2 c =
     let b = i.before.before.before in
     let a = b.before in
     let d = a.before in
-    (sym (second-out (held d.args.p) (held d.args.q) a.count-ms.ensures.is b.count-ms2.ensures.is (first i.before) (sym i.in-range2.ensures ∙ not-true i.in-range2.result c.if2.true)), tt)
+    (sym (second_out (held d.args.p) (held d.args.q) a.count-ms.ensures.is b.count-ms2.ensures.is (first i.before) (sym i.in-range2.ensures ∙ not-true i.in-range2.result c.if2.true)), tt)
 
 returns-3 : tie.Need-returns-3
 returns-3 c =
@@ -52,7 +52,7 @@ returns-3 c =
     let f = b.count-ms2.ensures.is in
     let h = first i.before in
     let k = sym i.in-range2.ensures ∙ not-false i.in-range2.result c.if2.false in
-    (sym (both-are p q e f h k), ((range_lands p (held a.count-ms.result) e h).ranged, (range_lands q (held b.count-ms2.result) f k).ranged))
+    (sym (both_are p q e f h k), ((range_lands p (held a.count-ms.result) e h).ranged, (range_lands q (held b.count-ms2.result) f k).ranged))
 
 pub both-ranged-spec : {M : Type 1} → statement M
 both-ranged-spec =

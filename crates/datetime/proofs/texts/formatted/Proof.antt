@@ -3,14 +3,14 @@ use native.Mathlib.Omega.{arith}
 use borrow.Author.Rules.{rules}
 use Rattle.rules.specs.Writing as rule
 use Rattle.moment.specs.Held.{held}
-use Rattle.datetime.proofs.Given.{Passes, check-passes, check-gives, format_length}
+use Rattle.datetime.proofs.Given.{Passes, check_passes, check_gives, format_length}
 use Rattle.datetime.proofs.Answers.{printable}
 use Rattle.datetime.proofs.texts.formatted.Statement.{statement}
 use Rattle.datetime.proofs.texts.formatted.Tie as tie
 
 -- a format that is let through
 passes : (c : tie.After-known-told2) → Passes (rule.formatted (held c.before.before.before.before.before.before.args.p) c.before.before.before.before.before.before.args.format.now) c.before.most.given.0.0
-passes c = check-passes _ _ _ _ c.before.most.given.1 c.before.before.before.check.ensures
+passes c = check_passes _ _ _ _ c.before.most.given.1 c.before.before.before.check.ensures
 
 check-requires : tie.Need-check-requires
 check-requires c κs = (printable c.before.before.requires.0, omega arith)
@@ -40,7 +40,7 @@ put-requires-2 : tie.Need-put-requires-2
 put-requires-2 c κs = (c.before.before.before.before.before.before.before.before.before.before.requires.0, ((passes c.before.before.before.before).is_text, record { fits = omega (arith, c.before.before.format_length.ensures, c.before.if2.false) }))
 
 returns-3 : tie.Need-returns-3
-returns-3 c = check-gives _ _ _ _ _ c.before.r.given.1 c.before.before.before.check.ensures
+returns-3 c = check_gives _ _ _ _ _ c.before.r.given.1 c.before.before.before.check.ensures
 
 same-length-2 : tie.Need-same-length-2
 same-length-2 c = search rules

@@ -1,6 +1,6 @@
 -- `datetime::texts::put` meets its contract. Assumes nothing.
 use borrow.Author.Rules.{rules}
-use Rattle.datetime.proofs.Given.{put-gives, put-refuses}
+use Rattle.datetime.proofs.Given.{put_gives, put_refuses}
 use Rattle.datetime.proofs.Answers.{printable}
 use Rattle.datetime.proofs.texts.put.Statement.{statement}
 use Rattle.datetime.proofs.texts.put.Tie as tie
@@ -18,13 +18,13 @@ same_length : tie.Need-same-length
 same_length c = search rules
 
 returns : tie.Need-returns
-returns c = put-gives _ _ _ c.before.before.before.before.before.before.before.before.before.requires.1.1 c.before.n.given.1 c.before.before.before.before.before.put-format.ensures
+returns c = put_gives _ _ _ c.before.before.before.before.before.before.before.before.before.requires.1.1 c.before.n.given.1 c.before.before.before.before.before.put-format.ensures
 
 same-length-2 : tie.Need-same-length-2
 same-length-2 c = search rules
 
 returns-2 : tie.Need-returns-2
-returns-2 c = put-refuses _ _ _ c.before.r.given.1 c.before.before.before.before.before.put-format.ensures
+returns-2 c = put_refuses _ _ _ c.before.r.given.1 c.before.before.before.before.before.put-format.ensures
 
 pub put_spec : {M : Type 1} → statement M
 put_spec =

@@ -1,6 +1,6 @@
 -- `lines::calls::call` meets its contract. Assumes nothing.
 use borrow.Author.Rules.{rules}
-use Rattle.lines.proofs.Outcomes.{julianday-gives, unixepoch-gives}
+use Rattle.lines.proofs.Outcomes.{julianday_gives, unixepoch_gives}
 use Rattle.lines.proofs.calls.call.Statement.{statement}
 use Rattle.lines.proofs.calls.call.Tie as tie
 
@@ -59,10 +59,10 @@ returns-3 c =
     rw c.before.before.before.before.enum-told3.given.1 (record { is = e.0; bytes = e.1 })
 
 returns-4 : tie.Need-returns-4
-returns-4 c = rw c.before.enum-told4.given.1 (julianday-gives _ _ _ _ c.julianday.ensures)
+returns-4 c = rw c.before.enum-told4.given.1 (julianday_gives _ _ _ _ c.julianday.ensures)
 
 returns-5 : tie.Need-returns-5
-returns-5 c = rw c.before.enum-told5.given.1 (unixepoch-gives _ _ _ _ c.unixepoch.ensures)
+returns-5 c = rw c.before.enum-told5.given.1 (unixepoch_gives _ _ _ _ c.unixepoch.ensures)
 
 pub call-spec : {M : Type 1} → statement M
 call-spec =

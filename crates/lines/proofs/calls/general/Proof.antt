@@ -6,7 +6,7 @@ use lib.Seq.{length-take-le}
 use borrow.Author.Rules.{rules}
 use Rattle.rules.specs.Program.{general_call}
 use Rattle.lines.proofs.Parts.{after_end}
-use Rattle.lines.proofs.Asking.{laid-inside, laid-are, none_comes, general-comes, next_field}
+use Rattle.lines.proofs.Asking.{laid_inside, laid_are, none_comes, general_comes, next_field}
 use Rattle.lines.proofs.calls.general.Statement.{statement}
 use Rattle.lines.proofs.calls.general.Tie as tie
 
@@ -35,10 +35,10 @@ part-call-end : tie.Need-slice-bounds-call-end
 part-call-end c = search rules
 
 slice-reshare-prefix-call : tie.Need-slice-reshare-prefix-call
-slice-reshare-prefix-call c = laid-inside c.before.before.before.before.before.before.before.before.before.before.args.s.now c.before.before.before.before.before.field-end.result c.before.before.before.before.before.before.before.before.before.before.requires c.before.before.before.lay-modifiers.ensures
+slice-reshare-prefix-call c = laid_inside c.before.before.before.before.before.before.before.before.before.before.args.s.now c.before.before.before.before.before.field-end.result c.before.before.before.before.before.before.before.before.before.before.requires c.before.before.before.lay-modifiers.ensures
 
 slice-aggregate-call : tie.Need-slice-aggregate-call
-slice-aggregate-call c = sym (length-take-le _ _ (laid-inside c.before.before.before.before.before.before.before.before.before.before.before.args.s.now c.before.before.before.before.before.before.field-end.result c.before.before.before.before.before.before.before.before.before.before.before.requires c.before.before.before.before.lay-modifiers.ensures))
+slice-aggregate-call c = sym (length-take-le _ _ (laid_inside c.before.before.before.before.before.before.before.before.before.before.before.args.s.now c.before.before.before.before.before.before.field-end.result c.before.before.before.before.before.before.before.before.before.before.before.requires c.before.before.before.before.lay-modifiers.ensures))
 
 call-requires : tie.Need-call-requires
 call-requires c κs = search rules
@@ -55,7 +55,7 @@ returns-2 c =
     let s = a.s.now in
     let to = c.before.before.before.before.before.before.before.before.before.before.field-end.result in
     let l = c.before.before.before.before.before.before.before.before.lay-modifiers.ensures in
-    let g = general-comes a.set _ _ _ (laid-are s to c.before.before.before.before.before.before.before.before.before.before.before.before.before.before.before.requires l) l a.f (next_field s a.end to c.before.before.before.before.before.before.before.before.before.before.before.if1.false c.before.before.before.before.before.before.before.before.before.before.field-end.ensures) c.before.before.call.ensures in
+    let g = general_comes a.set _ _ _ (laid_are s to c.before.before.before.before.before.before.before.before.before.before.before.before.before.before.before.requires l) l a.f (next_field s a.end to c.before.before.before.before.before.before.before.before.before.before.before.if1.false c.before.before.before.before.before.before.before.before.before.before.field-end.ensures) c.before.before.call.ensures in
     (g.gives, g.lays)
 
 pub general-spec : {M : Type 1} → statement M

@@ -7,7 +7,7 @@ use borrow.Author.Rules.{rules}
 use Rattle.rules.specs.Program.{strftime_call}
 use Rattle.text.specs.Places.{part}
 use Rattle.lines.proofs.Parts.{after_end}
-use Rattle.lines.proofs.Asking.{laid-inside, laid-are, none_comes, strftime-comes, next_field}
+use Rattle.lines.proofs.Asking.{laid_inside, laid_are, none_comes, strftime_comes, next_field}
 use Rattle.lines.proofs.calls.strftime.Statement.{statement}
 use Rattle.lines.proofs.calls.strftime.Tie as tie
 
@@ -60,10 +60,10 @@ part-strftime-end-2 : tie.Need-slice-bounds-strftime-end-2
 part-strftime-end-2 c = search rules
 
 slice-reshare-prefix-strftime : tie.Need-slice-reshare-prefix-strftime
-slice-reshare-prefix-strftime c = laid-inside c.before.before.before.before.before.before.before.before.before.before.before.before.before.args.s.now c.before.before.before.before.before.before.field-end2.result c.before.before.before.before.before.before.before.before.before.before.before.before.before.requires c.before.before.before.before.lay-modifiers.ensures
+slice-reshare-prefix-strftime c = laid_inside c.before.before.before.before.before.before.before.before.before.before.before.before.before.args.s.now c.before.before.before.before.before.before.field-end2.result c.before.before.before.before.before.before.before.before.before.before.before.before.before.requires c.before.before.before.before.lay-modifiers.ensures
 
 slice-aggregate-strftime : tie.Need-slice-aggregate-strftime
-slice-aggregate-strftime c = sym (length-take-le _ _ (laid-inside c.before.before.before.before.before.before.before.before.before.before.before.before.before.before.args.s.now c.before.before.before.before.before.before.before.field-end2.result c.before.before.before.before.before.before.before.before.before.before.before.before.before.before.requires c.before.before.before.before.before.lay-modifiers.ensures))
+slice-aggregate-strftime c = sym (length-take-le _ _ (laid_inside c.before.before.before.before.before.before.before.before.before.before.before.before.before.before.args.s.now c.before.before.before.before.before.before.before.field-end2.result c.before.before.before.before.before.before.before.before.before.before.before.before.before.before.requires c.before.before.before.before.before.lay-modifiers.ensures))
 
 strftime-requires : tie.Need-strftime-requires
 strftime-requires c κs = search rules
@@ -83,7 +83,7 @@ returns-3 c =
     let l = c.before.before.before.before.before.before.before.before.before.lay-modifiers.ensures in
     let e = next_field s a.end tab c.before.before.before.before.before.before.before.before.before.before.before.before.before.before.if1.false c.before.before.before.before.before.before.before.before.before.before.before.before.before.field-end.ensures ∙ ap (λ (fs : List (List ℕ)). part s (a.end + 1) tab ∷ fs) (next_field s tab to c.before.before.before.before.before.before.before.before.before.before.before.before.if2.false c.before.before.before.before.before.before.before.before.before.before.before.field-end2.ensures) in
     let d = c.before.before.strftime.ensures in
-    let g = strftime-comes a.set _ _ _ (laid-are s to c.before.before.before.before.before.before.before.before.before.before.before.before.before.before.before.before.before.before.requires l) l _ e (record { is = d.0; bytes = d.1 }) in
+    let g = strftime_comes a.set _ _ _ (laid_are s to c.before.before.before.before.before.before.before.before.before.before.before.before.before.before.before.before.before.before.requires l) l _ e (record { is = d.0; bytes = d.1 }) in
     (g.gives, g.lays)
 
 pub strftime-spec : {M : Type 1} → statement M

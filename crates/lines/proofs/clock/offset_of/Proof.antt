@@ -9,7 +9,7 @@ use mir.Syntax.{w64}
 use mir.Val.{to_z, of_z}
 use borrow.Author.Rules.{rules}
 use Rattle.rules.specs.Basics.{got}
-use Rattle.text.proofs.Reading.{stands-inside, bind-got, bind-other}
+use Rattle.text.proofs.Reading.{stands_inside, bind_got, bind_other}
 use Rattle.text.proofs.Runs.{part_all}
 use Rattle.moment.proofs.Ways.{back, back_pos, abs_signed}
 use Rattle.lines.specs.First.{number_of, up_to}
@@ -18,7 +18,7 @@ use Rattle.lines.proofs.clock.offset_of.Statement.{statement}
 use Rattle.lines.proofs.clock.offset_of.Tie as tie
 
 west : (c : tie.Then1) → 0 < length c.before.before.before.args.s.now
-west c = stands-inside 45 c.before.before.before.args.s.now 0 (sym c.before.has.ensures ∙ c.if1.true)
+west c = stands_inside 45 c.before.before.before.args.s.now 0 (sym c.before.has.ensures ∙ c.if1.true)
 
 has-requires : tie.Need-has-requires
 has-requires c κs = search rules
@@ -44,7 +44,7 @@ enum_told c = search rules
 returns : tie.Need-returns
 returns c =
     let s = c.before.before.before.before.before.before.before.args.s.now in
-    sym (near_west s (sym c.before.before.before.before.before.has.ensures ∙ c.before.before.before.before.if1.true) ∙ bind-other _ (ap (up_to 86399) (sym (part_all s 1)) ∙ sym c.before.before.number_of_lem.ensures.0 ∙ ap number_of c.enum_told.given.1))
+    sym (near_west s (sym c.before.before.before.before.before.has.ensures ∙ c.before.before.before.before.if1.true) ∙ bind_other _ (ap (up_to 86399) (sym (part_all s 1)) ∙ sym c.before.before.number_of_lem.ensures.0 ∙ ap number_of c.enum_told.given.1))
 
 minus-requires : tie.Need-minus-requires
 minus-requires c κs = at_most c.before.before.before.number_of_lem.ensures.1 c.before.west.given.1
@@ -55,7 +55,7 @@ returns-2 c =
     let n = c.before.before.west.given.0.0 in
     let h = at_most c.before.before.before.before.number_of_lem.ensures.1 c.before.before.west.given.1 in
     let e : to_z w64 (of_z w64 c.minus.result) ≡ neg_ℤ (pos n) = ap (λ (z : ℤ). to_z w64 (of_z w64 z)) c.minus.ensures ∙ back (neg_ℤ (pos n)) (rw (abs_signed true n) (omega arith)) in
-    ap got e ∙ sym (near_west s (sym c.before.before.before.before.before.before.before.has.ensures ∙ c.before.before.before.before.before.before.if1.true) ∙ bind-got _ (ap (up_to 86399) (sym (part_all s 1)) ∙ sym c.before.before.before.before.number_of_lem.ensures.0 ∙ ap number_of c.before.before.west.given.1))
+    ap got e ∙ sym (near_west s (sym c.before.before.before.before.before.before.before.has.ensures ∙ c.before.before.before.before.before.before.if1.true) ∙ bind_got _ (ap (up_to 86399) (sym (part_all s 1)) ∙ sym c.before.before.before.before.number_of_lem.ensures.0 ∙ ap number_of c.before.before.west.given.1))
 
 number-of-requires-2 : tie.Need-number-of-requires-2
 number-of-requires-2 c κs = search rules
@@ -67,7 +67,7 @@ enum-told-2 : tie.Need-enum-told-2
 enum-told-2 c = search rules
 
 returns-3 : tie.Need-returns-3
-returns-3 c = sym (near_east _ (sym c.before.before.before.before.has.ensures ∙ c.before.before.before.if1.false) ∙ bind-other _ (sym c.before.before.number-of2.ensures.0 ∙ ap number_of c.enum-told2.given.1))
+returns-3 c = sym (near_east _ (sym c.before.before.before.before.has.ensures ∙ c.before.before.before.if1.false) ∙ bind_other _ (sym c.before.before.number-of2.ensures.0 ∙ ap number_of c.enum-told2.given.1))
 
 cast-t12 : tie.Need-overflow-cast-t12
 cast-t12 c =
@@ -77,7 +77,7 @@ cast-t12 c =
 returns-4 : tie.Need-returns-4
 returns-4 c =
     let h = at_most c.before.before.before.number-of2.ensures.1 c.before.east.given.1 in
-    ap got (back_pos c.before.east.given.0.0 (omega arith)) ∙ sym (near_east _ (sym c.before.before.before.before.before.has.ensures ∙ c.before.before.before.before.if1.false) ∙ bind-got _ (sym c.before.before.before.number-of2.ensures.0 ∙ ap number_of c.before.east.given.1))
+    ap got (back_pos c.before.east.given.0.0 (omega arith)) ∙ sym (near_east _ (sym c.before.before.before.before.before.has.ensures ∙ c.before.before.before.before.if1.false) ∙ bind_got _ (sym c.before.before.before.number-of2.ensures.0 ∙ ap number_of c.before.east.given.1))
 
 pub offset-of-spec : {M : Type 1} → statement M
 offset-of-spec =

@@ -5,7 +5,7 @@ use mathlib.Core.Path.{◌≡◌, refl, ap, ◌∙◌}
 use lib.ListN.{length}
 use borrow.Author.Tests.{eq-eqb, ne_eqb}
 use borrow.Author.Rules.{rules}
-use Rattle.text.proofs.Runs.{end_on, end-stop, end_past, passed}
+use Rattle.text.proofs.Runs.{end_on, end_stop, end_past, passed}
 use Rattle.text.specs.Places.{end_at}
 use Rattle.lines.specs.Fields.{in_field}
 use Rattle.lines.proofs.fields.field_end.Statement.{statement}
@@ -24,7 +24,7 @@ shared-slice-read-if1 : tie.Need-shared-slice-read-if1 invariant-loop decreases-
 shared-slice-read-if1 c = search rules
 
 returns : tie.Need-returns invariant-loop decreases-loop
-returns c = passed _ _ _ _ (c.before.before.before.loop.invariant ∙ end-stop _ _ _ c.before.before.loop-test.true (ap not (eq-eqb _ 9 c.if1.true)))
+returns c = passed _ _ _ _ (c.before.before.before.loop.invariant ∙ end_stop _ _ _ c.before.before.loop-test.true (ap not (eq-eqb _ 9 c.if1.true)))
 
 add-i : tie.Need-overflow-add-i invariant-loop decreases-loop
 add-i c = search rules

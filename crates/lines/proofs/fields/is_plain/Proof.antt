@@ -7,7 +7,7 @@ use lib.ListN.{length, drop}
 use borrow.Author.Rules.{rules}
 use borrow.Author.Tests.{le-leb, lt-leb, eq-eqb, ne_eqb}
 use Rattle.rules.specs.Basics.{every}
-use Rattle.text.proofs.Runs.{every-on, every-stop, every_past}
+use Rattle.text.proofs.Runs.{every_on, every_stop, every_past}
 use Rattle.lines.proofs.fields.is_plain.Statement.{statement}
 use Rattle.lines.proofs.fields.is_plain.Tie as tie
 
@@ -27,7 +27,7 @@ shared-slice-read-if2 : tie.Need-shared-slice-read-if2 invariant-loop decreases-
 shared-slice-read-if2 c = search rules
 
 returns-2 : tie.Need-returns-2 invariant-loop decreases-loop
-returns-2 c = rw (le-leb _ _ c.before.before.before.before.if1.false) (sym (c.before.before.before.loop.invariant ∙ every-stop _ _ _ c.before.before.loop-test.true (ap not (eq-eqb _ 0 c.if2.true))))
+returns-2 c = rw (le-leb _ _ c.before.before.before.before.if1.false) (sym (c.before.before.before.loop.invariant ∙ every_stop _ _ _ c.before.before.loop-test.true (ap not (eq-eqb _ 0 c.if2.true))))
 
 add-i : tie.Need-overflow-add-i invariant-loop decreases-loop
 add-i c = search rules
@@ -36,7 +36,7 @@ loop-less : tie.Need-loop-smaller invariant-loop decreases-loop
 loop-less c = search rules
 
 loop-again : tie.Need-loop-preserved invariant-loop decreases-loop
-loop-again c = c.before.before.before.loop.invariant ∙ every-on _ _ _ c.before.before.loop-test.true (ap not (ne_eqb _ 0 c.if2.false))
+loop-again c = c.before.before.before.loop.invariant ∙ every_on _ _ _ c.before.before.loop-test.true (ap not (ne_eqb _ 0 c.if2.false))
 
 returns-3 : tie.Need-returns-3 invariant-loop decreases-loop
 returns-3 c = rw (le-leb _ _ c.before.before.if1.false) (sym (c.before.loop.invariant ∙ every_past _ _ _ c.loop-test.false))

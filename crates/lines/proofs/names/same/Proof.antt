@@ -5,7 +5,7 @@ use native.Mathlib.Omega.{arith}
 use lib.ListN.{length, drop}
 use borrow.Author.Rules.{rules}
 use Rattle.rules.specs.Program as rule
-use Rattle.lines.proofs.Naming.{same_length, same-on, same_stop, same_past}
+use Rattle.lines.proofs.Naming.{same_length, same_on, same_stop, same_past}
 use Rattle.lines.proofs.names.same.Statement.{statement}
 use Rattle.lines.proofs.names.same.Tie as tie
 
@@ -37,7 +37,7 @@ loop-less : tie.Need-loop-smaller invariant-loop decreases-loop
 loop-less c = search rules
 
 loop-again : tie.Need-loop-preserved invariant-loop decreases-loop
-loop-again c = c.before.before.before.before.loop.invariant ∙ same-on _ _ _ c.before.before.before.loop-test.true (omega arith) c.if2.false
+loop-again c = c.before.before.before.before.loop.invariant ∙ same_on _ _ _ c.before.before.before.loop-test.true (omega arith) c.if2.false
 
 returns-3 : tie.Need-returns-3 invariant-loop decreases-loop
 returns-3 c = sym (c.before.loop.invariant ∙ same_past _ _ _ c.loop-test.false (omega arith))

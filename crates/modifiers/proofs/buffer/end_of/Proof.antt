@@ -1,6 +1,6 @@
 -- `modifiers::buffer::end_of` meets its contract. The loop's invariant: the modifier ends where what is left of it ends. Assumes nothing.
 use Rattle.std.proofs.Common.{◌≡◌, ◌-◌, not, length, refl, ap, ◌∙◌, rules, eq-eqb, ne_eqb}
-use Rattle.text.proofs.Runs.{end_on, end-stop, end_past, passed}
+use Rattle.text.proofs.Runs.{end_on, end_stop, end_past, passed}
 use Rattle.text.specs.Places.{end_at}
 use Rattle.modifiers.specs.Buffer.{is_byte}
 use Rattle.modifiers.proofs.buffer.end_of.Tie as tie
@@ -19,7 +19,7 @@ shared-slice-read-if1 : tie.Need-shared-slice-read-if1 invariant-loop decreases-
 shared-slice-read-if1 c = search rules
 
 returns : tie.Need-returns invariant-loop decreases-loop
-returns c = passed _ _ _ _ (c.before.before.before.loop.invariant ∙ end-stop _ _ _ c.before.before.loop-test.true (ap not (eq-eqb _ 0 c.if1.true)))
+returns c = passed _ _ _ _ (c.before.before.before.loop.invariant ∙ end_stop _ _ _ c.before.before.loop-test.true (ap not (eq-eqb _ 0 c.if1.true)))
 
 add-i : tie.Need-overflow-add-i invariant-loop decreases-loop
 add-i c = search rules

@@ -6,7 +6,7 @@ use Rattle.moment.specs.Held.{held}
 use Rattle.reading.proofs.Steps.{read_as}
 use Rattle.reading.specs.Readers.{year_month_day, ymd_of, Limits}
 use Rattle.modifiers.specs.Times.{clock_of}
-use Rattle.modifiers.proofs.Forms.{no_date, date-other, date-refused, date_is, dated, date-stops, not_dated}
+use Rattle.modifiers.proofs.Forms.{no_date, date_other, date_refused, date_is, dated, date_stops, not_dated}
 use Rattle.modifiers.proofs.Answers.{stepped, refused, stepped_as}
 use Rattle.modifiers.proofs.counts.arithmetic.Tie as tie
 use Rattle.modifiers.proofs.counts.arithmetic.Statement.{statement}
@@ -49,7 +49,7 @@ enum_told : tie.Need-enum-told
 enum_told c = search rules
 
 returns-2 : tie.Need-returns-2
-returns-2 c = refused _ _ _ (date-stops _ _ _ _ c.before.before.before.before.before.before.before.sign.ensures.0 _ (date-refused _ _ _ _ _ _ _ (date c.before.before.before) _ (read_as clock_of c.before.before.clock-after.ensures.0 c.enum_told.given.1)))
+returns-2 c = refused _ _ _ (date_stops _ _ _ _ c.before.before.before.before.before.before.before.sign.ensures.0 _ (date_refused _ _ _ _ _ _ _ (date c.before.before.before) _ (read_as clock_of c.before.before.clock-after.ensures.0 c.enum_told.given.1)))
 
 enum-told-2 : tie.Need-enum-told-2
 enum-told-2 c = search rules
@@ -64,7 +64,7 @@ time-step-requires c κs = search rules
 undated : (c : tie.At-match-branch) → let a = c.before.before.before.before.args in date_step c.before.before.sign.result.minus (drop c.before.before.sign.result.next a.s.now) (held a.p) ≡ other
 undated c =
     ⊎_elim
-    (λ w. date-other _ _ _ _ _ _ _ (date (record { before = record { before = record { before = c.before; match = w.0 }; y = w.1 }; known-told = w.2 })) (read_as clock_of w.3.ensures.0 w.5.given.1))
+    (λ w. date_other _ _ _ _ _ _ _ (date (record { before = record { before = record { before = c.before; match = w.0 }; y = w.1 }; known-told = w.2 })) (read_as clock_of w.3.ensures.0 w.5.given.1))
     (λ w. no_date _ _ _ (read_as (ymd_of c.before.before.before.before.args.s.now) c.before.year-month-day.ensures.0 w.1.given.1))
     c.match.branch
 

@@ -3,7 +3,7 @@ use Rattle.std.proofs.Common.{◌≡◌, sym, ◌∙◌, rules}
 use Rattle.moment.specs.Held.{held}
 use Rattle.modifiers.specs.Words.{scale_of}
 use Rattle.modifiers.specs.declared.counts.Scale.{Scale}
-use Rattle.modifiers.proofs.Forms.{length-by, months-by, none-by, reaches}
+use Rattle.modifiers.proofs.Forms.{length_by, months_by, none_by, reaches}
 use Rattle.modifiers.proofs.Answers.{stepped_as, refused}
 use Rattle.modifiers.proofs.counts.by_unit.Tie as tie
 use Rattle.modifiers.proofs.counts.by_unit.Statement.{statement}
@@ -34,13 +34,13 @@ enum_told : tie.Need-enum-told
 enum_told c = search rules
 
 returns : tie.Need-returns
-returns c = let a = c.before.before.before.before.before.args in stepped_as _ (length-by a.unit a.n (held a.p) _ _ (length c.before)) c.by_length.ensures
+returns c = let a = c.before.before.before.before.before.args in stepped_as _ (length_by a.unit a.n (held a.p) _ _ (length c.before)) c.by_length.ensures
 
 returns-2 : tie.Need-returns-2
-returns-2 c = let a = c.before.before.before.before.before.args in stepped_as _ (months-by a.unit a.n (held a.p) _ _ _ (months c.before)) c.by_months_lem.ensures
+returns-2 c = let a = c.before.before.before.before.before.args in stepped_as _ (months_by a.unit a.n (held a.p) _ _ _ (months c.before)) c.by_months_lem.ensures
 
 returns-3 : tie.Need-returns-3
-returns-3 c = let a = c.before.before.before.args in refused _ _ _ (none-by a.unit a.n (held a.p) (sym c.before.before.scale_of.ensures ∙ c.enum_told.given.1))
+returns-3 c = let a = c.before.before.before.args in refused _ _ _ (none_by a.unit a.n (held a.p) (sym c.before.before.scale_of.ensures ∙ c.enum_told.given.1))
 
 pub by-unit-spec : {M : Type 1} → statement M
 by-unit-spec =

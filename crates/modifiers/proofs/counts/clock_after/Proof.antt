@@ -5,18 +5,18 @@ use Rattle.rules.specs.Basics.{got, skip}
 use Rattle.rules.specs.Modifiers.{wide_space}
 use Rattle.reading.specs.Readers.{time_of}
 use Rattle.moment.specs.Ranges.{TimeRead}
-use Rattle.modifiers.proofs.Forms.{time_read, time_held, time-end, time-other, time-unread, time_is}
+use Rattle.modifiers.proofs.Forms.{time_read, time_held, time_end, time_other, time_unread, time_is}
 use Rattle.modifiers.proofs.counts.clock_after.Tie as tie
 use Rattle.modifiers.proofs.counts.clock_after.Statement.{statement}
 
 returns : tie.Need-returns
-returns c = (sym (time-end _ _ c.if1.true), omega arith)
+returns c = (sym (time_end _ _ c.if1.true), omega arith)
 
 shared-slice-read-if2 : tie.Need-shared-slice-read-if2
 shared-slice-read-if2 c = search rules
 
 returns-2 : tie.Need-returns-2
-returns-2 c = (sym (time-other _ _ c.before.before.if1.false c.if2.true), tt)
+returns-2 c = (sym (time_other _ _ c.before.before.if1.false c.if2.true), tt)
 
 add-skip-wide : tie.Need-overflow-add-skip-wide
 add-skip-wide c = search rules
@@ -40,7 +40,7 @@ read : (c : tie.After-time) →
 read c = c.time.ensures.0 ∙ ap time c.before.skip-wide.ensures.rest
 
 returns-3 : tie.Need-returns-3
-returns-3 c = (sym (time-unread _ _ c.before.before.before.before.before.before.if1.false c.before.before.before.before.if2.false (time_read (read c.before.before) c.enum_told.given.1)), tt)
+returns-3 c = (sym (time_unread _ _ c.before.before.before.before.before.before.if1.false c.before.before.before.before.if2.false (time_read (read c.before.before) c.enum_told.given.1)), tt)
 
 day : (c : tie.After-known-told) → TimeRead c.before.t.given.0.0
 day c = time_held _ c.before.before.before.time.ensures.1 c.before.t.given.1 c.before.before.before.before.before.before.before.before.before.requires

@@ -6,7 +6,7 @@ use Rattle.moment.specs.Held.{held}
 use Rattle.moment.proofs.Chains.{moved_as}
 use Rattle.moment.specs.Steps.{time_on as byTime}
 use Rattle.moment.specs.Ranges.{TimeRead}
-use Rattle.modifiers.proofs.Forms.{time_read, time_held, no_time, is-time}
+use Rattle.modifiers.proofs.Forms.{time_read, time_held, no_time, is_time}
 use Rattle.modifiers.proofs.Answers.{stepped, stepped_as}
 use Rattle.modifiers.proofs.counts.time_step.Tie as tie
 use Rattle.modifiers.proofs.counts.time_step.Statement.{statement}
@@ -36,7 +36,7 @@ by-time-requires : tie.Need-by-time-requires
 by-time-requires c κs = search rules
 
 returns-2 : tie.Need-returns-2
-returns-2 c = stepped _ (is-time _ _ _ _ _ (time_read c.before.before.before.before.before.time.ensures.0 c.before.before.before.t.given.1)) (moved_as (ap (λ ms. byTime c.before.before.before.before.before.before.before.args.minus ms (held c.before.before.before.before.before.before.before.args.p)) c.before.time_ms_lem.ensures.0) c.by_time.ensures)
+returns-2 c = stepped _ (is_time _ _ _ _ _ (time_read c.before.before.before.before.before.time.ensures.0 c.before.before.before.t.given.1)) (moved_as (ap (λ ms. byTime c.before.before.before.before.before.before.before.args.minus ms (held c.before.before.before.before.before.before.before.args.p)) c.before.time_ms_lem.ensures.0) c.by_time.ensures)
 
 pub time-step-spec : {M : Type 1} → statement M
 time-step-spec =

@@ -8,7 +8,7 @@ use Rattle.rules.specs.declared.Refusal.{Refusal}
 use Rattle.decimal.specs.AsRead.{as_read}
 use Rattle.moment.specs.Held.{held}
 use Rattle.modifiers.specs.Words.{unit_of, step_by}
-use Rattle.modifiers.proofs.Forms.{in_word, unit_none, unit-over, unit-is}
+use Rattle.modifiers.proofs.Forms.{in_word, unit_none, unit_over, unit_is}
 use Rattle.modifiers.proofs.Answers.{refused, stepped_as}
 use Rattle.modifiers.proofs.counts.unit_step.Tie as tie
 use Rattle.modifiers.proofs.counts.unit_step.Statement.{statement}
@@ -57,10 +57,10 @@ returns : tie.Need-returns
 returns c = refused _ _ _ (unit_none _ _ (sym (read c.before.before) ∙ ap as_read c.enum_told.given.1))
 
 returns-2 : tie.Need-returns-2
-returns-2 c = refused _ _ _ (unit-over _ _ _ (sym (read c.before.before) ∙ ap as_read c.enum-told2.given.1))
+returns-2 c = refused _ _ _ (unit_over _ _ _ (sym (read c.before.before) ∙ ap as_read c.enum-told2.given.1))
 
 returns-3 : tie.Need-returns-3
-returns-3 c = let s = c.before.before.before.before.before.before.before.before.before.args.s.now in let p = held c.before.before.before.before.before.before.before.before.before.args.p in let n = c.before.before.before.n.given.0.0 in stepped_as _ (ap (λ r. r or refuse Refusal.Null) (unit-is s p n (sym (read c.before.before.before.before.before) ∙ ap as_read c.before.before.before.n.given.1) ∙ ap (λ u. step_by u n p) (sym (second c.before)))) c.by_unit.ensures
+returns-3 c = let s = c.before.before.before.before.before.before.before.before.before.args.s.now in let p = held c.before.before.before.before.before.before.before.before.before.args.p in let n = c.before.before.before.n.given.0.0 in stepped_as _ (ap (λ r. r or refuse Refusal.Null) (unit_is s p n (sym (read c.before.before.before.before.before) ∙ ap as_read c.before.before.before.n.given.1) ∙ ap (λ u. step_by u n p) (sym (second c.before)))) c.by_unit.ensures
 
 pub unit-step-spec : {M : Type 1} → statement M
 unit-step-spec =

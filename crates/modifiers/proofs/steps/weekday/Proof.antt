@@ -4,7 +4,7 @@ use Rattle.rules.specs.Modifiers.{wide_space}
 use Rattle.rules.specs.Basics.{trim}
 use Rattle.rules.specs.Decimal.{decimal}
 use Rattle.decimal.specs.AsRead.{as_read}
-use Rattle.modifiers.proofs.Answers.{refused, stepped_as, weekday-none, weekday-over, weekday_is}
+use Rattle.modifiers.proofs.Answers.{refused, stepped_as, weekday_none, weekday_over, weekday_is}
 use Rattle.modifiers.proofs.steps.weekday.Tie as tie
 use Rattle.modifiers.proofs.steps.weekday.Statement.{statement}
 
@@ -31,10 +31,10 @@ on-day-requires : tie.Need-on-day-requires
 on-day-requires c κs = search rules
 
 returns : tie.Need-returns
-returns c = refused _ _ _ (weekday-none _ _ (sym (read c.before.before) ∙ ap as_read c.enum_told.given.1))
+returns c = refused _ _ _ (weekday_none _ _ (sym (read c.before.before) ∙ ap as_read c.enum_told.given.1))
 
 returns-2 : tie.Need-returns-2
-returns-2 c = refused _ _ _ (weekday-over _ _ _ (sym (read c.before.before) ∙ ap as_read c.enum-told2.given.1))
+returns-2 c = refused _ _ _ (weekday_over _ _ _ (sym (read c.before.before) ∙ ap as_read c.enum-told2.given.1))
 
 returns-3 : tie.Need-returns-3
 returns-3 c = stepped_as _ (weekday_is _ _ _ (sym (read c.before.before.before.before) ∙ ap as_read c.before.before.x.given.1)) c.on_day.ensures

@@ -7,7 +7,7 @@ use native.Mathlib.Omega.{arith}
 use Rattle.rules.specs.Modifiers.{at_ms, nearest_ms}
 use Rattle.real.proofs.Epoch.{auto_ms}
 use Rattle.moment.specs.Held.{held}
-use Rattle.moment.proofs.Chains.{same, filled-as}
+use Rattle.moment.proofs.Chains.{same, filled_as}
 use Rattle.moment.proofs.Modifiers.{auto_known, auto_day, auto_out, auto_in}
 use Rattle.moment.proofs.Moment.auto.Statement.{statement}
 use Rattle.moment.proofs.Moment.auto.Tie as tie
@@ -18,7 +18,7 @@ not-raw-requires c κs = search rules
 returns : tie.Need-returns
 returns c =
     let p = held c.before.before.before.args.self in
-    filled-as (sym (auto_known p (not-true p.raw c.before.if1.true))) c.not_raw.ensures
+    filled_as (sym (auto_known p (not-true p.raw c.before.if1.true))) c.not_raw.ensures
 
 not-raw-requires-2 : tie.Need-not-raw-requires-2
 not-raw-requires-2 c κs = search rules
@@ -27,7 +27,7 @@ returns-2 : tie.Need-returns-2
 returns-2 c =
     let b = c.before.before in
     let p = held b.before.before.args.self in
-    filled-as (sym (auto_day p (not-false p.raw b.if1.false) c.before.if2.true)) c.not-raw2.ensures
+    filled_as (sym (auto_day p (not-false p.raw b.if1.false) c.before.if2.true)) c.not-raw2.ensures
 
 is-auto-requires : tie.Need-is-auto-requires
 is-auto-requires c κs = search rules
@@ -38,7 +38,7 @@ returns-3 c =
     let b = a.before.before in
     let d = b.before.before in
     let p = held d.args.self in
-    filled-as (sym (auto_out p (not-false p.raw b.if1.false) a.before.if2.false (sym a.is-auto.ensures ∙ not-true a.is-auto.result c.if3.true))) (same d.args.self d.requires)
+    filled_as (sym (auto_out p (not-false p.raw b.if1.false) a.before.if2.false (sym a.is-auto.ensures ∙ not-true a.is-auto.result c.if3.true))) (same d.args.self d.requires)
 
 from-epoch-requires : tie.Need-from-epoch-requires
 from-epoch-requires c κs = search rules
@@ -56,7 +56,7 @@ returns-4 c =
     let b = a.before.before in
     let d = b.before.before in
     let p = held d.args.self in
-    filled-as
+    filled_as
     (ap (λ (r : Float). at_ms p r) c.before.from-epoch.ensures
     ∙ sym (auto_in p (not-false p.raw b.if1.false) a.before.if2.false (sym a.is-auto.ensures ∙ not-false a.is-auto.result c.before.before.if3.false))) c.at-ms.ensures
 

@@ -13,7 +13,7 @@ use Rattle.rules.specs.Modifiers.{signed, by_date}
 use Rattle.moment.specs.Held.{held}
 use Rattle.moment.specs.Ranges.{ReadYear, most_before}
 use Rattle.moment.proofs.Bounds.{fill_year}
-use Rattle.moment.proofs.Chains.{fresh-movable, fresh-move, moved_as}
+use Rattle.moment.proofs.Chains.{fresh_movable, fresh_move, moved_as}
 use Rattle.moment.proofs.Modifiers.{step}
 use Rattle.moment.proofs.Ways.{back, abs_signed}
 use Rattle.moment.proofs.Moment.by_date.Statement.{statement}
@@ -79,7 +79,7 @@ unfolding past_end shift
 uncounted c = ap (λ (q : Moment). q.counted) (shifted c)
 
 moved-requires : tie.Need-moved-requires
-moved-requires c κs = (fresh-movable c.before.past-end.ensures.sane (uncounted c.before) c.count-ms.ensures, omega arith)
+moved-requires c κs = (fresh_movable c.before.past-end.ensures.sane (uncounted c.before) c.count-ms.ensures, omega arith)
 
 returns : tie.Need-returns
 unfolding by_date
@@ -87,7 +87,7 @@ returns c =
     let e = c.before.before in
     let d = e.before.before.before.before.before in
     let g = step d.args.minus (d.args.d * day_length + d.args.t) in
-    moved_as (ap (λ (q : Moment). g (count_ms q)) (shifted e)) (fresh-move e.past-end.ensures.sane (uncounted e) c.before.count-ms.ensures d.args.self g c.moved.ensures)
+    moved_as (ap (λ (q : Moment). g (count_ms q)) (shifted e)) (fresh_move e.past-end.ensures.sane (uncounted e) c.before.count-ms.ensures d.args.self g c.moved.ensures)
 
 pub by-date-spec : {M : Type 1} → statement M
 by-date-spec =

@@ -9,7 +9,7 @@ use Rattle.rules.specs.Moments.{moved, set_over}
 use Rattle.moment.specs.Held.{held}
 use Rattle.moment.specs.Steps.{length_on}
 use Rattle.moment.specs.Ranges.{most_before}
-use Rattle.moment.proofs.Chains.{then-move, move-fill, moved_as}
+use Rattle.moment.proofs.Chains.{then_move, move_fill, moved_as}
 use Rattle.moment.proofs.Modifiers.{step}
 use Rattle.moment.proofs.Moment.by_length.Statement.{statement}
 use Rattle.moment.proofs.Moment.by_length.Tie as tie
@@ -35,7 +35,7 @@ returns c =
     let d = q.before.before in
     let p = held d.args.self in
     moved_as (ap (λ (z : ℤ). length_on z p) (sym (sym (to_z-of_z w64 _ d.ranges.ms) ∙ w.ensures.0)))
-    (move-fill (λ p. set_over p 0) (then-move (step w.result.minus w.result.size) q.count-ms.ensures c.before.moved.ensures) c.not-over.ensures)
+    (move_fill (λ p. set_over p 0) (then_move (step w.result.minus w.result.size) q.count-ms.ensures c.before.moved.ensures) c.not_over.ensures)
 
 pub by-length-spec : {M : Type 1} → statement M
 by-length-spec =

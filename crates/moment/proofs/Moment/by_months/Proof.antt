@@ -14,7 +14,7 @@ use Rattle.rules.specs.Modifiers.{signed, fraction_ms}
 use Rattle.moment.specs.Held.{held}
 use Rattle.moment.specs.Ranges.{ReadYear, most_before}
 use Rattle.moment.proofs.Bounds.{fill_year}
-use Rattle.moment.proofs.Chains.{fresh-movable, fresh-move, moved_as}
+use Rattle.moment.proofs.Chains.{fresh_movable, fresh_move, moved_as}
 use Rattle.moment.proofs.Modifiers.{step, shift_times}
 use Rattle.moment.proofs.Ways.{sfits, back, back_pos, abs_product}
 use Rattle.moment.proofs.Moment.by_months.Statement.{statement}
@@ -78,7 +78,7 @@ moved-requires : tie.Need-moved-requires
 moved-requires c κs =
     let u = c.before.before.before.uncounted.ensures in
     let d = c.before.before.before.before.before.before.before.before in
-    (fresh-movable u.sane (ap (λ (p : Moment). p.counted) u.is) c.count-ms.ensures, omega (arith, (rest c.before).1, d.requires.2))
+    (fresh_movable u.sane (ap (λ (p : Moment). p.counted) u.is) c.count-ms.ensures, omega (arith, (rest c.before).1, d.requires.2))
 
 returns : tie.Need-returns
 returns c =
@@ -100,7 +100,7 @@ returns c =
     ∙ ap (λ (z : ℤ). shift (held f.fill.result) z k) s.before.cut.ensures
     ∙ ap (λ (q : Moment). shift q (cut d.args.n) k) f.fill.ensures.is) in
     moved_as (ap (λ (q : Moment). step b.minus b.size (count_ms q)) e ∙ ap (λ (z : ℤ). clear (moved (count_ms (set_counted (past_end (shift (fill p) (cut d.args.n) k)) false)) z 1)) (rest w).0)
-    (fresh-move u.uncounted.ensures.sane (ap (λ (q : Moment). q.counted) u.uncounted.ensures.is) c.before.count-ms.ensures d.args.self (step b.minus b.size) c.moved.ensures)
+    (fresh_move u.uncounted.ensures.sane (ap (λ (q : Moment). q.counted) u.uncounted.ensures.is) c.before.count-ms.ensures d.args.self (step b.minus b.size) c.moved.ensures)
 
 pub by-months-spec : {M : Type 1} → statement M
 by-months-spec =

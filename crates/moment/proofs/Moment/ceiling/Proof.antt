@@ -2,7 +2,7 @@
 use borrow.Author.Rules.{rules}
 use Rattle.rules.specs.Moments.{clear, set_over}
 use Rattle.rules.specs.Modifiers.{ceiling}
-use Rattle.moment.proofs.Chains.{then-fill}
+use Rattle.moment.proofs.Chains.{then_fill}
 use Rattle.moment.proofs.Moment.ceiling.Statement.{statement}
 use Rattle.moment.proofs.Moment.ceiling.Tie as tie
 
@@ -17,7 +17,7 @@ not-over-requires c κs = search rules
 
 returns : tie.Need-returns
 unfolding ceiling
-returns c = then-fill (λ p. set_over p 0) (then-fill clear c.before.before.count-ms.ensures c.before.clear.ensures) c.not-over.ensures
+returns c = then_fill (λ p. set_over p 0) (then_fill clear c.before.before.count-ms.ensures c.before.clear.ensures) c.not_over.ensures
 
 pub ceiling-spec : {M : Type 1} → statement M
 ceiling-spec = tie.close (tie.spec count-ms-requires clear-requires not-over-requires returns)

@@ -28,7 +28,7 @@ returns-2 c =
     let d = s.before in
     let a = d.before.before in
     let p = held a.args.self in
-    filled _ (count_kept p) a.requires (c.failure.ensures ∙ count_fails p _ d.date-meant.ensures d.before.if1.false (sym s.summable.ensures ∙ not-true s.summable.result c.before.if2.true))
+    filled _ (count_kept p) a.requires (c.failure.ensures ∙ count_fails p _ d.date_meant_lem.ensures d.before.if1.false (sym s.summable.ensures ∙ not-true s.summable.result c.before.if2.true))
 
 time-meant-requires : tie.Need-time-meant-requires
 time-meant-requires c κs = search rules
@@ -39,8 +39,8 @@ instant-requires c κs =
     let d = s.before in
     let a = d.before.before in
     let p = held a.args.self in (
-      date_asked p _ d.date-meant.ensures a.requires (sym s.summable.ensures ∙ not-false s.summable.result c.before.if2.false),
-      time_asked p _ c.time-meant.ensures a.requires,
+      date_asked p _ d.date_meant_lem.ensures a.requires (sym s.summable.ensures ∙ not-false s.summable.result c.before.if2.false),
+      time_asked p _ c.time_meant_lem.ensures a.requires,
     )
 
 summed-requires : tie.Need-summed-requires
@@ -55,7 +55,7 @@ returns-3 c =
     let p = held a.args.self in
     filled _ (count_kept p) a.requires
     (c.summed.ensures
-    ∙ count_sums p _ _ _ d.date-meant.ensures t.time-meant.ensures c.before.instant.ensures d.before.if1.false (sym s.summable.ensures ∙ not-false s.summable.result t.before.if2.false))
+    ∙ count_sums p _ _ _ d.date_meant_lem.ensures t.time_meant_lem.ensures c.before.instant.ensures d.before.if1.false (sym s.summable.ensures ∙ not-false s.summable.result t.before.if2.false))
 
 pub count-ms-spec : {M : Type 1} → statement M
 count-ms-spec =

@@ -7,7 +7,7 @@ use Rattle.rules.specs.Calendar.{day_length}
 use Rattle.rules.specs.Moments.{set_over}
 use Rattle.moment.specs.Held.{held}
 use Rattle.moment.specs.Ranges.{most_before}
-use Rattle.moment.proofs.Chains.{then-move, move-fill, moved_as}
+use Rattle.moment.proofs.Chains.{then_move, move_fill, moved_as}
 use Rattle.moment.proofs.Modifiers.{step, floor_is}
 use Rattle.moment.proofs.Moment.floor.Statement.{statement}
 use Rattle.moment.proofs.Moment.floor.Tie as tie
@@ -30,7 +30,7 @@ not-over-requires c κs = search rules
 returns : tie.Need-returns
 returns c =
     let q = c.before.before.before in
-    moved_as (floor_is (held q.before.args.self)) (move-fill (λ p. set_over p 0) (then-move (λ p. step true (p.over * day_length) p) q.count-ms.ensures c.before.moved.ensures) c.not-over.ensures)
+    moved_as (floor_is (held q.before.args.self)) (move_fill (λ p. set_over p 0) (then_move (λ p. step true (p.over * day_length) p) q.count-ms.ensures c.before.moved.ensures) c.not_over.ensures)
 
 pub floor-spec : {M : Type 1} → statement M
 floor-spec =

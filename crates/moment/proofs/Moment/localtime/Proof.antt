@@ -9,13 +9,13 @@ use mir.ValLaws.{to_z-of_z}
 use Rattle.rules.specs.Moments.{set_local}
 use Rattle.moment.specs.Held.{held}
 use Rattle.moment.specs.Ranges.{most_before}
-use Rattle.moment.proofs.Chains.{same, then-move, move-fill, moved_as, no_move, filled-as}
+use Rattle.moment.proofs.Chains.{same, then_move, move_fill, moved_as, no_move, filled_as}
 use Rattle.moment.proofs.Modifiers.{step, local_stays, local_is}
 use Rattle.moment.proofs.Moment.localtime.Statement.{statement}
 use Rattle.moment.proofs.Moment.localtime.Tie as tie
 
 returns : tie.Need-returns
-returns c = let d = c.before in no_move (filled-as (sym (local_stays d.args.offset (held d.args.self) c.if1.true)) (same d.args.self d.requires.0.sane))
+returns c = let d = c.before in no_move (filled_as (sym (local_stays d.args.offset (held d.args.self) c.if1.true)) (same d.args.self d.requires.0.sane))
 
 way-of-requires : tie.Need-way-of-requires
 way-of-requires c κs = search rules
@@ -44,7 +44,7 @@ returns-2 c =
     let w = q.before.Way-of in
     let d = q.before.before.before in
     moved_as (local_is d.args.offset w.result.minus w.result.size (held d.args.self) (sym (to_z-of_z w64 _ d.ranges.offset) ∙ w.ensures.0) q.before.before.if1.false)
-    (move-fill set_local (then-move (step w.result.minus (w.result.size * 1000)) q.count-ms.ensures c.before.moved.ensures) c.known-local.ensures)
+    (move_fill set_local (then_move (step w.result.minus (w.result.size * 1000)) q.count-ms.ensures c.before.moved.ensures) c.known-local.ensures)
 
 pub localtime-spec : {M : Type 1} → statement M
 localtime-spec =

@@ -10,13 +10,13 @@ use mir.ValLaws.{to_z-of_z}
 use Rattle.rules.specs.Moments.{set_utc}
 use Rattle.moment.specs.Held.{held}
 use Rattle.moment.specs.Ranges.{most_before}
-use Rattle.moment.proofs.Chains.{same, then-move, move-fill, moved_as, no_move, filled-as}
+use Rattle.moment.proofs.Chains.{same, then_move, move_fill, moved_as, no_move, filled_as}
 use Rattle.moment.proofs.Modifiers.{step, utc_stays, utc_is}
 use Rattle.moment.proofs.Moment.utc.Statement.{statement}
 use Rattle.moment.proofs.Moment.utc.Tie as tie
 
 returns : tie.Need-returns
-returns c = let d = c.before in no_move (filled-as (sym (utc_stays d.args.offset (held d.args.self) c.if1.true)) (same d.args.self d.requires.0.sane))
+returns c = let d = c.before in no_move (filled_as (sym (utc_stays d.args.offset (held d.args.self) c.if1.true)) (same d.args.self d.requires.0.sane))
 
 way-of-requires : tie.Need-way-of-requires
 way-of-requires c κs = search rules
@@ -45,7 +45,7 @@ returns-2 c =
     let w = q.before.Way-of in
     let d = q.before.before.before in
     moved_as (utc_is d.args.offset w.result.minus w.result.size (held d.args.self) (sym (to_z-of_z w64 _ d.ranges.offset) ∙ w.ensures.0) q.before.before.if1.false)
-    (move-fill set_utc (then-move (step (not w.result.minus) (w.result.size * 1000)) q.count-ms.ensures c.before.moved.ensures) c.known-utc.ensures)
+    (move_fill set_utc (then_move (step (not w.result.minus) (w.result.size * 1000)) q.count-ms.ensures c.before.moved.ensures) c.known-utc.ensures)
 
 pub utc-spec : {M : Type 1} → statement M
 utc-spec =
