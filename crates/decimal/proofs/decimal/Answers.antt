@@ -36,14 +36,14 @@ first_of minus rest n = as_read n or digits_form minus rest
 pub returns-in-NotOne : goal.returns-in-NotOne
 returns-in-NotOne c = let r = c.sign-t.result in
     let rest = drop r.next c.args.s.now in
-    c.digits_form.ensures ∙ sym (forms c.before.before.before.before ∙ ap (first_of r.minus rest) c.in-NotOne.is)
+    c.digits_form.ensures ∙ sym (forms c.before.before.before ∙ ap (first_of r.minus rest) c.in-NotOne.is)
 
 pub returns-in-Over : goal.returns-in-Over
 returns-in-Over c = let r = c.sign-t.result in
     let rest = drop r.next c.args.s.now in
-    sym (forms c.before.before.before ∙ ap (first_of r.minus rest) c.in-Over.is)
+    sym (forms c.before.before ∙ ap (first_of r.minus rest) c.in-Over.is)
 
 pub returns-in-Is : goal.returns-in-Is
 returns-in-Is c = let r = c.sign-t.result in
     let rest = drop r.next c.args.s.now in
-    sym (forms c.before.before.before.before ∙ ap (first_of r.minus rest) c.in-Is.is)
+    sym (forms c.before.before ∙ ap (first_of r.minus rest) c.in-Is.is)

@@ -42,7 +42,7 @@ scaled_is c = let a = c.args in
     ∙ ap (λ (x : Read (Bool × ℕ)). ◌>>=◌ x (scaled a.minus all.value all.count)) (sym c.exponent.ensures)
 
 pub lowered-requires : goal.lowered-requires
-lowered-requires c = let h = few c.before.before.before.before.before.before.before.before in omega arith
+lowered-requires c = let h = few c.before.before.before.before.before.before in omega arith
 
 -- and by the kind of the exponent
 abbrev scaled_by : Bool → ℕ → ℕ → Power → Read Float
@@ -51,20 +51,18 @@ scaled_by minus d tenths e = ◌>>=◌ (as_exponent e) (scaled minus d tenths)
 pub returns-in-NotOne : goal.returns-in-NotOne
 returns-in-NotOne c = let a = c.args in
     let all = c.point-all.result in
-    sym (scaled_is c.before.before.before ∙ ap (scaled_by a.minus all.value all.count) c.in-NotOne.is)
+    sym (scaled_is c.before.before ∙ ap (scaled_by a.minus all.value all.count) c.in-NotOne.is)
 
 pub returns-in-Up : goal.returns-in-Up
 returns-in-Up c = let a = c.args in
     let all = c.point-all.result in
-    let e = c.e-1.given in
     c.nearest_to.ensures
-    ∙ sym (scaled_is c.before.before.before.before.before ∙ ap (scaled_by a.minus all.value all.count) e.1 ∙ ap (nearest_to a.minus all.value e.0.0) (add-zero all.count))
+    ∙ sym (scaled_is c.before.before.before ∙ ap (scaled_by a.minus all.value all.count) c.in-Up.is ∙ ap (nearest_to a.minus all.value c.in-Up.e) (add-zero all.count))
 
 pub returns-in-Down : goal.returns-in-Down
 returns-in-Down c = let a = c.args in
     let all = c.point-all.result in
-    let e = c.e-in-Down-1.given in
     c.nearest_to-in-Down.ensures
     ∙ ap (nearest_to a.minus all.value 0) c.lowered.ensures
-    ∙ held_down a.minus all.value 23 e.0.0 all.count (lit≤ tt)
-    ∙ sym (scaled_is c.before.before.before.before.before.before ∙ ap (scaled_by a.minus all.value all.count) e.1)
+    ∙ held_down a.minus all.value 23 c.in-Down.e all.count (lit≤ tt)
+    ∙ sym (scaled_is c.before.before.before.before ∙ ap (scaled_by a.minus all.value all.count) c.in-Down.is)

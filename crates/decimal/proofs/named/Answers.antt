@@ -31,7 +31,7 @@ no_inf c = sym c.is_word.ensures ∙ c.if-is_word.false
 pub returns-then-is_word-2 : goal.returns-then-is_word-2
 returns-then-is_word-2 c = let a = c.args in
     ap got (c.with_sign-then-is_word-2.ensures ∙ infinite a.minus _ one_by_zero)
-    ∙ sym (named_infinity a.minus a.s.now (no_inf c.before.before.before.before.before) (sym c.is_word-2.ensures ∙ c.if-is_word-2.true))
+    ∙ sym (named_infinity a.minus a.s.now (no_inf c.before.before.before.before.before.before) (sym c.is_word-2.ensures ∙ c.if-is_word-2.true))
 
 no_infinity : (c : lts.Else2 tie.the-claims reads.Pre reads.Post) → let a = c.args in word (ascii "infinity") a.s.now ≡ false
 no_infinity c = sym c.is_word-2.ensures ∙ c.if-is_word-2.false
@@ -39,8 +39,8 @@ no_infinity c = sym c.is_word-2.ensures ∙ c.if-is_word-2.false
 pub returns-then-is_word-3 : goal.returns-then-is_word-3
 unfolding div of_bits
 returns-then-is_word-3 c = let a = c.args in
-    sym (named_nan a.minus a.s.now (no_inf c.before.before.before.before.before.before.before) (no_infinity c.before.before.before.before) (sym c.is_word-3.ensures ∙ c.if-is_word-3.true))
+    sym (named_nan a.minus a.s.now (no_inf c.before.before.before.before.before.before.before.before.before) (no_infinity c.before.before.before.before.before) (sym c.is_word-3.ensures ∙ c.if-is_word-3.true))
 
 pub returns : goal.returns
 returns c = let a = c.args in
-    sym (named_none a.minus a.s.now (no_inf c.before.before.before.before.before.before.before) (no_infinity c.before.before.before.before) (sym c.is_word-3.ensures ∙ c.if-is_word-3.false))
+    sym (named_none a.minus a.s.now (no_inf c.before.before.before.before.before.before.before.before.before) (no_infinity c.before.before.before.before.before) (sym c.is_word-3.ensures ∙ c.if-is_word-3.false))

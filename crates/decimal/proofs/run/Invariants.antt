@@ -13,7 +13,7 @@ use Rattle.decimal.proofs.Readers.{Passed, passed_none, passed_more, passed_all,
 use Rattle.decimal.proofs.run.Given as goal
 
 abbrev pub invariant-loop-i : goal.invariant-loop-i
-invariant-loop-i l = Passed l.s l.at «from» l.i l.value
+invariant-loop-i l = Passed l.s l.at l.«from» l.i l.value
 
 abbrev pub decreases-loop-i : goal.decreases-loop-i
 decreases-loop-i l = length l.s - l.i

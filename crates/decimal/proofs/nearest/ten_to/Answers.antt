@@ -106,4 +106,4 @@ returns-in-21 c = rw c.in-21.is (refl, refl)
 
 pub returns-in_default : goal.returns-in_default
 unfolding of_bits
-returns-in_default c = let k = c.args.k in rw (le_antisymm c.requires (past k 22 c.in_default.rest)) (refl, refl)
+returns-in_default c = let k = c.args.k in rw (le_antisymm c.requires (past k 22 c.in_default.in_default-own.rest)) (refl, refl)
