@@ -204,8 +204,8 @@ class Function:
 
         text = re.sub(r"(?<![^\s(){}\[\];,])[A-Za-z_][\w-]*'?(?:\.[^%s.]+)*" % STOP, path, text).replace("\0", "")
         text = re.sub(r"\.(in_default[\w-]*)\.rest\b", r".\1.\1-own.rest", text)
-        text = re.sub(r"\(?not-true _ (\S+\.true)-raw\)?", lambda m: m.group(1) + close(m.group(0)), text)
-        text = re.sub(r"\(?not-false _ (\S+\.false)-raw\)?", lambda m: m.group(1) + close(m.group(0)), text)
+        text = re.sub(r"\(?not-true \S+ (\S+\.true)-raw\)?", lambda m: m.group(1) + close(m.group(0)), text)
+        text = re.sub(r"\(?not-false \S+ (\S+\.false)-raw\)?", lambda m: m.group(1) + close(m.group(0)), text)
         return text
 
     def place_type(self, pl, more):
@@ -247,7 +247,7 @@ def trailing_record(body, names):
                 out.append(s[last:k].strip())
                 last = k + 1
         out.append(s[last:].strip())
-        return out
+        return [x for x in out if x]
 
     parts = split(inner)
     while len(parts) < len(names):

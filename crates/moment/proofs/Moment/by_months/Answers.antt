@@ -43,7 +43,7 @@ shift-requires c = let f = c.fill.ensures in
 rest : (c : lts.After-way_of tie.the-claims reads.Pre reads.Post) → let w = c.way_of-by.result in (signed w.minus w.size ≡ fraction_ms c.args.days c.args.n) × (w.size ≡ nat_abs (fraction_ms c.args.days c.args.n))
 rest c = let w = c.way_of-by in
     let f = c.fraction_ms in
-    let e = to_z-of_z w64 f.result (record { sfits = f.type-inv }) ∙ f.ensures in
+    let e = to_z-of_z w64 f.result (record { sfits = f.type_inv }) ∙ f.ensures in
     (sym w.ensures.0 ∙ e, w.ensures.1 ∙ ap nat_abs e)
 
 pub moved-requires : goal.moved-requires

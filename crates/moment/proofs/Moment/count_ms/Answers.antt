@@ -14,13 +14,13 @@ returns-then-self c = filled _ (count_kept (held c.args.self)) c.requires (sym (
 
 pub returns-then-not-summable : goal.returns-then-not-summable
 returns-then-not-summable c = let p = held c.args.self in
-    filled _ (count_kept p) c.requires (c.failure.ensures ∙ count_fails p _ c.date_meant-d.ensures c.if-self.false (sym c.summable.ensures ∙ not-true c.summable.result c.if-not-summable.true-raw))
+    filled _ (count_kept p) c.requires (c.failure.ensures ∙ count_fails p _ c.date_meant-d.ensures c.if-self.false (sym c.summable.ensures ∙ c.if-not-summable.true))
 
 pub instant-ms-requires : goal.instant-ms-requires
-instant-ms-requires c = let p = held c.args.self in record { countable = date_asked p _ c.date_meant-d.ensures c.requires (sym c.summable.ensures ∙ not-false c.summable.result c.if-not-summable.false-raw); time_in = (time_asked p _ c.time_meant-t.ensures c.requires, ) }
+instant-ms-requires c = let p = held c.args.self in record { countable = date_asked p _ c.date_meant-d.ensures c.requires (sym c.summable.ensures ∙ c.if-not-summable.false); time_in = time_asked p _ c.time_meant-t.ensures c.requires }
 
 pub returns : goal.returns
 returns c = let p = held c.args.self in
     filled _ (count_kept p) c.requires
     (c.summed.ensures
-    ∙ count_sums p _ _ _ c.date_meant-d.ensures c.time_meant-t.ensures c.instant-ms.ensures c.if-self.false (sym c.summable.ensures ∙ not-false c.summable.result c.if-not-summable.false-raw))
+    ∙ count_sums p _ _ _ c.date_meant-d.ensures c.time_meant-t.ensures c.instant-ms.ensures c.if-self.false (sym c.summable.ensures ∙ c.if-not-summable.false))

@@ -8,11 +8,11 @@ use borrow.Author.Rules.{rules}
 use Rattle.moment.proofs.Moment.ranged.Goals as goal
 
 pub returns-then-not-in_range : goal.returns-then-not-in_range
-returns-then-not-in_range c = let e = ap passes (sym c.count_ms-p.ensures.is) ∙ sym c.in_range.ensures ∙ not-true c.in_range.result c.if-not-in_range.true-raw in
+returns-then-not-in_range c = let e = ap passes (sym c.count_ms-p.ensures.is) ∙ sym c.in_range.ensures ∙ c.if-not-in_range.true in
     (refused _ _ _ (range_out (held c.args.self) e), tt)
 
 pub returns : goal.returns
 returns c = let p = held c.args.self in
-    let e = sym c.in_range.ensures ∙ not-false c.in_range.result c.if-not-in_range.false-raw in
+    let e = sym c.in_range.ensures ∙ c.if-not-in_range.false in
     let f = ap passes (sym c.count_ms-p.ensures.is) ∙ e in
     (answered (range_passed p f) c.count_ms-p.ensures, range_lands p _ c.count_ms-p.ensures.is e)

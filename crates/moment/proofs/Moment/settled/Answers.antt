@@ -15,13 +15,13 @@ returns-then-self-eq-NO_ZONE c = let p = held c.args.self in
 
 pub returns-then-not-summable : goal.returns-then-not-summable
 returns-then-not-summable c = let p = held c.args.self in
-    filled _ (settled_kept p) c.requires.0 (c.failure.ensures ∙ settled_fails p c.requires.1 c.if-self-eq-NO_ZONE.false (sym c.summable.ensures ∙ not-true c.summable.result c.if-not-summable.true-raw))
+    filled _ (settled_kept p) c.requires.0 (c.failure.ensures ∙ settled_fails p c.requires.1 c.if-self-eq-NO_ZONE.false (sym c.summable.ensures ∙ c.if-not-summable.true))
 
 pub instant-ms-requires : goal.instant-ms-requires
-instant-ms-requires c = let p = held c.args.self in record { countable = taken _ _ _ p.raw c.requires.0.date (sym c.summable.ensures ∙ not-false c.summable.result c.if-not-summable.false-raw); time_in = (settled_time p c.requires.0 c.requires.1 c.if-self-eq-NO_ZONE.false, ) }
+instant-ms-requires c = let p = held c.args.self in record { countable = taken _ _ _ p.raw c.requires.0.date (sym c.summable.ensures ∙ c.if-not-summable.false); time_in = settled_time p c.requires.0 c.requires.1 c.if-self-eq-NO_ZONE.false }
 
 pub returns : goal.returns
 returns c = let p = held c.args.self in
     filled _ (settled_kept p) c.requires.0
     (c.summed.ensures
-    ∙ settled_sums p _ c.requires.1 c.instant-ms.ensures c.if-self-eq-NO_ZONE.false (sym c.summable.ensures ∙ not-false c.summable.result c.if-not-summable.false-raw))
+    ∙ settled_sums p _ c.requires.1 c.instant-ms.ensures c.if-self-eq-NO_ZONE.false (sym c.summable.ensures ∙ c.if-not-summable.false))

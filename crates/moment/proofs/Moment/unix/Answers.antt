@@ -16,13 +16,13 @@ returns-then-not-self c = let p = held c.args.self in refused _ _ _ (unix_known 
 
 pub returns-then-not-is_unix : goal.returns-then-not-is_unix
 returns-then-not-is_unix c = let p = held c.args.self in
-    refused _ _ _ (unix_out p (not-false p.raw c.if-not-self.false) (sym (c.is_unix.ensures ∙ ap is_unix c.from_epoch-r.ensures) ∙ not-true c.is_unix.result c.if-not-is_unix.true-raw))
+    refused _ _ _ (unix_out p (not-false p.raw c.if-not-self.false) (sym (c.is_unix.ensures ∙ ap is_unix c.from_epoch-r.ensures) ∙ c.if-not-is_unix.true))
 
 pub at_ms-requires : goal.at_ms-requires
-at_ms-requires c = (c.requires, unix_ms c.from_epoch-r.result (sym c.is_unix.ensures ∙ not-false c.is_unix.result c.if-not-is_unix.false-raw))
+at_ms-requires c = (c.requires, unix_ms c.from_epoch-r.result (sym c.is_unix.ensures ∙ c.if-not-is_unix.false))
 
 pub returns : goal.returns
 returns c = let p = held c.args.self in
     answered
-    (unix_in p (not-false p.raw c.if-not-self.false) (sym (c.is_unix.ensures ∙ ap is_unix c.from_epoch-r.ensures) ∙ not-false c.is_unix.result c.if-not-is_unix.false-raw)
+    (unix_in p (not-false p.raw c.if-not-self.false) (sym (c.is_unix.ensures ∙ ap is_unix c.from_epoch-r.ensures) ∙ c.if-not-is_unix.false)
     ∙ ap (λ (r : Float). got (at_ms p r)) (sym c.from_epoch-r.ensures)) c.at_ms.ensures

@@ -18,19 +18,19 @@ down : (c : lts.Else1 reads.Pre reads.Post) → Quotient (c.args.month -ℤ pos 
 down c = month_down _ c.requires (rw (to_z-of_z w64 _ c.ranges.month) at c.if-month-gt0.false)
 
 pub overflow_sub-result : goal.overflow_sub-result
-overflow_sub-result c = rw (to_z-of_z w64 _ c.ranges.month) (up c).ranges
+overflow_sub-result c = rw (to_z-of_z w64 _ c.ranges.month) (up c).fits
 
 pub nonzero_div-result : goal.nonzero_div-result
-nonzero_div-result c = rw (to_z-of_z w64 _ c.ranges.month, to_z-of_z w64 _ (up c).ranges) (omega arith, (up c).quotient_fits)
+nonzero_div-result c = rw (to_z-of_z w64 _ c.ranges.month, to_z-of_z w64 _ (up c).fits) (omega arith, (up c).quotient_fits)
 
 pub overflow_sub-result-else-month-gt0 : goal.overflow_sub-result-else-month-gt0
-overflow_sub-result-else-month-gt0 c = rw (to_z-of_z w64 _ c.ranges.month) (down c).ranges
+overflow_sub-result-else-month-gt0 c = rw (to_z-of_z w64 _ c.ranges.month) (down c).fits
 
 pub nonzero_div-result-else-month-gt0 : goal.nonzero_div-result-else-month-gt0
-nonzero_div-result-else-month-gt0 c = rw (to_z-of_z w64 _ c.ranges.month, to_z-of_z w64 _ (down c).ranges) (omega arith, (down c).quotient_fits)
+nonzero_div-result-else-month-gt0 c = rw (to_z-of_z w64 _ c.ranges.month, to_z-of_z w64 _ (down c).fits) (omega arith, (down c).quotient_fits)
 
 pub returns-then-month-gt0 : goal.returns-then-month-gt0
-returns-then-month-gt0 c = rw (to_z-of_z w64 _ c.ranges.month, to_z-of_z w64 _ (up c).ranges) (to_z-of_z w64 _ (up c).quotient_fits ∙ (up c).is)
+returns-then-month-gt0 c = rw (to_z-of_z w64 _ c.ranges.month, to_z-of_z w64 _ (up c).fits) (to_z-of_z w64 _ (up c).quotient_fits ∙ (up c).is)
 
 pub returns-else-month-gt0 : goal.returns-else-month-gt0
-returns-else-month-gt0 c = rw (to_z-of_z w64 _ c.ranges.month, to_z-of_z w64 _ (down c).ranges) (to_z-of_z w64 _ (down c).quotient_fits ∙ (down c).is)
+returns-else-month-gt0 c = rw (to_z-of_z w64 _ c.ranges.month, to_z-of_z w64 _ (down c).fits) (to_z-of_z w64 _ (down c).quotient_fits ∙ (down c).is)
