@@ -91,7 +91,7 @@ class Function:
             k += 1
         return rest
 
-    def step(self, var, place, befores, parts):
+    def step(self, var, place, befores, parts, root=None):
         """The new path of var.before^n.parts at a place."""
         at = self.up(place, befores)
         head = parts[0]
@@ -129,7 +129,7 @@ class Function:
         known = {norm(self.places[p][2][0]): self.places[p][2][0] for p in self.chain(place) if self.places[p][2][0]}
         near = difflib.get_close_matches(norm(head), list(known), 1, 0.7)
         if near and near[0] != norm(head):
-            return self.step(var, place, befores, [known[near[0]]] + parts[1:])
+            return self.step(var, place, befores, [known[near[0]]] + parts[1:], root)
         self.left.append("no step " + ".".join([var] + ["before"] * befores + parts))
         return ".".join([var] + ["before"] * befores + parts)
 
@@ -200,7 +200,7 @@ class Function:
                 # a goal at a place that Goals shows by a view has the walk's record below it
                 view = goal and self.exported.get(self.new_place.get(self.goal_place)) == "View"
                 return ".".join([var] + ["before"] * (far + n + bool(view)))
-            return self.step(var, place, n, rest)
+            return self.step(var, place, n, rest, None if goal else root)
 
         text = re.sub(r"(?<![^\s(){}\[\];,])[A-Za-z_][\w-]*'?(?:\.[^%s.]+)*" % STOP, path, text).replace("\0", "")
         text = re.sub(r"\.(in_default[\w-]*)\.rest\b", r".\1.\1-own.rest", text)
@@ -212,10 +212,8 @@ class Function:
         p = self.place(pl)
         if p is None:
             return None
-        if self.arms[p] and self.new_place[p] in self.exported:
-            return "goal." + self.new_place[p]
         self.cited |= {"lts", "tie", "reads"}
-        return f"lts.{p}" + self.given
+        return "lts." + ("Past-" if self.arms[p] else "") + p + self.given
 
 
 def trailing_record(body, names):

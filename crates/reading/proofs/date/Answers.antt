@@ -15,6 +15,7 @@ use Rattle.reading.proofs.Steps.{read_as}
 use Rattle.reading.proofs.Dates.{no_date, no_time_after, date_and_time, date_unsettled, held_year_in, after_minus, no_minus}
 use borrow.Author.Rules.{rules}
 use Rattle.reading.proofs.date.Goals as goal
+use Rattle.reading.proofs.date.Goals.{then-minus, else-minus}
 use Rattle.reading.proofs.date.Tie as tie
 use Rattle.reading.proofs.date.Lts as lts
 use Rattle.reading.proofs.date.Reads as reads
@@ -22,26 +23,25 @@ use Rattle.reading.proofs.date.Reads as reads
 -- after the minus, where there is one
 signed : (c : lts.Joined1 tie.the-claims reads.Pre reads.Post tie.handed_clauses) → let s = c.args.s.now in date_form s ≡ date_from (held_year c.has-minus.result) (drop c.if-minus.at s)
 signed c = let s = c.args.s.now in
-    ⊎_elim
-    (λ w. rw (w.1, w.0.taken) (after_minus s (sym c.has-minus.ensures ∙ w.0.taken)))
-    (λ w. rw (w.1, w.0.left) (no_minus s (sym c.has-minus.ensures ∙ w.0.left)))
-    c.if-minus.branch
+    elim c.if-minus.branch [
+      then-minus w ↦ rw (w.at-is, w.if-minus.true) (after_minus s (sym c.has-minus.ensures ∙ w.if-minus.true))
+    | else-minus w ↦ rw (w.at-is, w.if-minus.false) (no_minus s (sym c.has-minus.ensures ∙ w.if-minus.false)) ]
 
 pub returns-in_default : goal.returns-in_default
 returns-in_default c = record { result_value = sym (signed c.before.before.before ∙ no_date _ _ (read_as (ymd_of c.args.s.now) c.year_month_day.ensures.result_value c.in_default.is)); form_held = tt }
 
 -- the date
-ymd : (c : goal.In-Is) → let s = c.args.s.now in year_month_day 1 12 31 (drop c.if-minus.at s) ≡ got (c.in-Is.y, c.in-Is.month, c.in-Is.day, drop c.in-Is.end s)
+ymd : (c : lts.Past-After-known_told tie.the-claims reads.Pre reads.Post tie.handed_clauses) → let s = c.args.s.now in year_month_day 1 12 31 (drop c.if-minus.at s) ≡ got (c.in-Is.y, c.in-Is.month, c.in-Is.day, drop c.in-Is.end s)
 ymd c = read_as (ymd_of c.args.s.now) c.year_month_day.ensures.result_value c.in-Is.is
 
-limits : (c : goal.In-Is) → Limits 1 12 31 c.in-Is.y c.in-Is.month c.in-Is.day
+limits : (c : lts.Past-After-known_told tie.the-claims reads.Pre reads.Post tie.handed_clauses) → Limits 1 12 31 c.in-Is.y c.in-Is.month c.in-Is.day
 limits c = rw c.in-Is.is at c.year_month_day.ensures.in_year
 
 pub returns-in_default-time_after : goal.returns-in_default-time_after
 returns-in_default-time_after c = record { result_value = sym (signed c.before.before.before.before.before.before ∙ no_time_after _ _ _ _ _ _ (ymd c.before.before.before.before) (ap time_after (sym c.skip_gap.ensures.rest) ∙ read_as form_of c.time_after.ensures.result_value c.in_default-time_after.is)); form_held = tt }
 
 -- the record before the date
-before : (c : goal.In-Is-time_after) → After 0 (held c.in-Is-time_after.p) × Fresh (held c.in-Is-time_after.p)
+before : (c : lts.Past-After-known_told2 tie.the-claims reads.Pre reads.Post tie.handed_clauses) → After 0 (held c.in-Is-time_after.p) × Fresh (held c.in-Is-time_after.p)
 before c = rw c.in-Is-time_after.is at c.time_after.ensures.form_held
 
 pub held_year-year-requires : goal.held_year-year-requires

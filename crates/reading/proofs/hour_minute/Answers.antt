@@ -19,11 +19,11 @@ pub returns-in_default : goal.returns-in_default
 returns-in_default c = record { result_value = sym (no_hour _ _ (read_of _ _ _ _ c.two_at.ensures.result_value c.in_default.is)); up_to = tt }
 
 -- the hour
-hour : (c : lts.After-known_told tie.the-claims reads.Pre reads.Post tie.handed_clauses) → let a = c.args in digits 2 0 a.most (drop a.at a.s.now) ≡ got (c.in-Number.hour, drop c.in-Number.colon a.s.now)
+hour : (c : lts.Past-After-known_told tie.the-claims reads.Pre reads.Post tie.handed_clauses) → let a = c.args in digits 2 0 a.most (drop a.at a.s.now) ≡ got (c.in-Number.hour, drop c.in-Number.colon a.s.now)
 hour c = read_of _ _ _ _ c.two_at.ensures.result_value c.in-Number.is
 
 -- the place after it: before the end, as the five bytes are there
-colon_at : (c : lts.After-known_told tie.the-claims reads.Pre reads.Post tie.handed_clauses) → let a = c.args in (c.in-Number.colon ≡ a.at + 2) × (c.in-Number.colon < length a.s.now)
+colon_at : (c : lts.Past-After-known_told tie.the-claims reads.Pre reads.Post tie.handed_clauses) → let a = c.args in (c.in-Number.colon ≡ a.at + 2) × (c.in-Number.colon < length a.s.now)
 colon_at c = let h = told_of c.two_at.ensures.told c.in-Number.is in (h.place, omega arith)
 
 pub bounds-s-colon : goal.bounds-s-colon

@@ -14,13 +14,13 @@ use Rattle.reading.proofs.text_value.Reads as reads
 pub returns-in-Is : goal.returns-in-Is
 returns-in-Is c = let a = c.args in record { result_value = sym (is_date a.clock a.s.now _ (read_as form_of c.date.ensures.result_value c.in-Is.is)); lands = rw c.in-Is.is at c.date.ensures.form_held }
 
-undated : (c : goal.In_default) → date_form c.args.s.now ≡ other
+undated : (c : lts.Past-After-enum_told tie.the-claims reads.Pre reads.Post tie.handed_clauses) → date_form c.args.s.now ≡ other
 undated c = read_as form_of c.date.ensures.result_value c.in_default.is
 
 pub returns-in-Is-time_alone : goal.returns-in-Is-time_alone
 returns-in-Is-time_alone c = let a = c.args in record { result_value = sym (is_time a.clock a.s.now (undated c.before.before.before) _ (read_as form_of c.time_alone.ensures.result_value c.in-Is-time_alone.is)); lands = rw c.in-Is-time_alone.is at c.time_alone.ensures.form_held.0 }
 
-untimed : (c : lts.After-enum_told2 tie.the-claims reads.Pre reads.Post tie.handed_clauses) → time_form c.args.s.now ≡ other
+untimed : (c : lts.Past-After-enum_told2 tie.the-claims reads.Pre reads.Post tie.handed_clauses) → time_form c.args.s.now ≡ other
 untimed c = read_as form_of c.time_alone.ensures.result_value c.in_default-time_alone.is
 
 pub returns-then-is_word : goal.returns-then-is_word

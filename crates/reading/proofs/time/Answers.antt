@@ -10,19 +10,22 @@ use Rattle.reading.proofs.Steps.{read_as}
 use Rattle.reading.proofs.Times.{no_hour_minute, no_second, no_zone_after, time_of_lem}
 use borrow.Author.Rules.{rules}
 use Rattle.reading.proofs.time.Goals as goal
+use Rattle.reading.proofs.time.Tie as tie
+use Rattle.reading.proofs.time.Lts as lts
+use Rattle.reading.proofs.time.Reads as reads
 
 pub returns-in_default : goal.returns-in_default
 returns-in_default c = record { result_value = sym (no_hour_minute _ (read_as (hour_minute_of c.args.s.now) c.hour_minute.ensures.result_value c.in_default.is)); time_held = tt }
 
 -- the hour and the minute
-first : (c : goal.In-Is) → let a = c.args in hour_minute 24 (drop a.at a.s.now) ≡ got (c.in-Is.hour, c.in-Is.minute, drop c.in-Is.after a.s.now)
+first : (c : lts.Past-After-known_told tie.the-claims reads.Pre reads.Post tie.handed_clauses) → let a = c.args in hour_minute 24 (drop a.at a.s.now) ≡ got (c.in-Is.hour, c.in-Is.minute, drop c.in-Is.after a.s.now)
 first c = read_as (hour_minute_of c.args.s.now) c.hour_minute.ensures.result_value c.in-Is.is
 
 pub returns-in_default-seconds : goal.returns-in_default-seconds
 returns-in_default-seconds c = record { result_value = sym (no_second _ _ _ _ (first c.before.before.before) (read_as (seconds_of c.args.s.now) c.seconds.ensures.result_value c.in_default-seconds.is)); time_held = tt }
 
 -- the seconds
-second : (c : goal.In-Is-seconds) → let s = c.args.s.now in rule.seconds (drop c.in-Is.after s) ≡ got (c.in-Is-seconds.second, drop c.in-Is-seconds.next s)
+second : (c : lts.Past-After-known_told2 tie.the-claims reads.Pre reads.Post tie.handed_clauses) → let s = c.args.s.now in rule.seconds (drop c.in-Is.after s) ≡ got (c.in-Is-seconds.second, drop c.in-Is-seconds.next s)
 second c = read_as (seconds_of c.args.s.now) c.seconds.ensures.result_value c.in-Is-seconds.is
 
 pub returns-in_default-zone : goal.returns-in_default-zone

@@ -10,6 +10,8 @@ use Rattle.rules.specs.Reading.{raw_number, time_value}
 use Rattle.rules.specs.Reading.{now as now·rule}
 use Rattle.rules.specs.declared.Given.{Given}
 use borrow.Author.Rules.{rules}
+use mir.Syntax.{w64}
+use mir.Val.{SFits}
 use Rattle.reading.proofs.time_value.Goals as goal
 
 pub text_value-requires : goal.text_value-requires
@@ -35,7 +37,8 @@ returns-in-Bytes c = let a = c.args in record { result_value = c.text_value.ensu
 pub returns-in-Integer : goal.returns-in-Integer
 unfolding time_value
 returns-in-Integer c = let a = c.args in
-    let h : c.of_integer.result ≡ of_int binary64 c.in-Integer.n = c.of_integer.ensures ∙ ap (of_int binary64) (to_z-of_z (record { sfits = c.known_told-1.given.0.1 })) in
+    let f : SFits w64 c.in-Integer.n = search rules in
+    let h : c.of_integer.result ≡ of_int binary64 c.in-Integer.n = c.of_integer.ensures ∙ ap (of_int binary64) (to_z-of_z f) in
     record { result_value = ap got (c.raw_number.ensures.0 ∙ ap raw_number h) ∙ sym (of a.clock a.s.now {x = Given.Integer c.in-Integer.n} c.in-Integer.is); lands = c.raw_number.ensures.1 }
 
 pub returns-in-Real : goal.returns-in-Real

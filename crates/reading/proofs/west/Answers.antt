@@ -5,8 +5,11 @@ use Rattle.reading.specs.Readers.{minutes_of, west_by}
 use Rattle.reading.proofs.Steps.{read_as}
 use borrow.Author.Rules.{rules}
 use Rattle.reading.proofs.west.Goals as goal
+use Rattle.reading.proofs.west.Tie as tie
+use Rattle.reading.proofs.west.Lts as lts
+use Rattle.reading.proofs.west.Reads as reads
 
-few : (c : goal.In-Are) → c.in-Are.n ≤ 899
+few : (c : lts.Past-After-known_told tie.the-claims reads.Pre reads.Post tie.handed_clauses) → c.in-Are.n ≤ 899
 few c = rw c.in-Are.is at c.hours_minutes.ensures.few_minutes
 
 pub overflow_sub-result : goal.overflow_sub-result

@@ -19,11 +19,11 @@ pub returns-in_default : goal.returns-in_default
 returns-in_default c = record { result_value = sym (no_year _ _ _ _ (read_of _ _ _ _ c.four_at.ensures.result_value c.in_default.is)); in_year = tt }
 
 -- the year
-year : (c : lts.After-known_told tie.the-claims reads.Pre reads.Post tie.handed_clauses) → let a = c.args in digits 4 0 9999 (drop a.at a.s.now) ≡ got (c.in-Number.year, drop c.in-Number.dash a.s.now)
+year : (c : lts.Past-After-known_told tie.the-claims reads.Pre reads.Post tie.handed_clauses) → let a = c.args in digits 4 0 9999 (drop a.at a.s.now) ≡ got (c.in-Number.year, drop c.in-Number.dash a.s.now)
 year c = read_of _ _ _ _ c.four_at.ensures.result_value c.in-Number.is
 
 -- the place after it: before the end, as the ten bytes are there
-dash_at : (c : lts.After-known_told tie.the-claims reads.Pre reads.Post tie.handed_clauses) → let a = c.args in (c.in-Number.dash ≡ a.at + 4) × (c.in-Number.dash < length a.s.now)
+dash_at : (c : lts.Past-After-known_told tie.the-claims reads.Pre reads.Post tie.handed_clauses) → let a = c.args in (c.in-Number.dash ≡ a.at + 4) × (c.in-Number.dash < length a.s.now)
 dash_at c = let h = told_of c.four_at.ensures.told c.in-Number.is in (h.place, omega arith)
 
 pub bounds-s-dash : goal.bounds-s-dash
@@ -46,11 +46,11 @@ pub returns-in_default-two_at : goal.returns-in_default-two_at
 returns-in_default-two_at c = record { result_value = sym (no_month _ _ _ _ _ _ (year c.before.before.before.before.before) _ (dash c.before.before.before) (read_of _ _ _ _ c.two_at.ensures.result_value c.in_default-two_at.is)); in_year = tt }
 
 -- the month
-month : (c : lts.After-known_told2 tie.the-claims reads.Pre reads.Post tie.handed_clauses) → let a = c.args in digits 2 a.low a.months (drop (c.in-Number.dash + 1) a.s.now) ≡ got (c.in-Number-two_at.month, drop c.in-Number-two_at.second a.s.now)
+month : (c : lts.Past-After-known_told2 tie.the-claims reads.Pre reads.Post tie.handed_clauses) → let a = c.args in digits 2 a.low a.months (drop (c.in-Number.dash + 1) a.s.now) ≡ got (c.in-Number-two_at.month, drop c.in-Number-two_at.second a.s.now)
 month c = read_of _ _ _ _ c.two_at.ensures.result_value c.in-Number-two_at.is
 
 -- and the place after it
-second_at : (c : lts.After-known_told2 tie.the-claims reads.Pre reads.Post tie.handed_clauses) → let a = c.args in (c.in-Number-two_at.second ≡ a.at + 7) × (c.in-Number-two_at.second < length a.s.now)
+second_at : (c : lts.Past-After-known_told2 tie.the-claims reads.Pre reads.Post tie.handed_clauses) → let a = c.args in (c.in-Number-two_at.second ≡ a.at + 7) × (c.in-Number-two_at.second < length a.s.now)
 second_at c = let h = dash_at c.before.before.before.before in
     let k = told_of c.two_at.ensures.told c.in-Number-two_at.is in
     (omega arith, omega arith)

@@ -27,11 +27,11 @@ byte c = get_or c.before.before.before.before.before.before.before.before.args.f
 abbrev here : tie.After-check-letter invariant-loop decreases-loop → Read (List ℕ)
 here c = letter (byte c) (held c.before.before.before.before.before.before.before.before.args.p)
 
-bound : (c : goal.In-Most) → CheckIs (here c.before.before.before) (most (byte c.before.before.before)) (Most c.in-Most.n)
-bound c = subst (λ (r : Checked). CheckIs (here c.before.before.before) (most (byte c.before.before.before)) r) c.in-Most.is c.check_letter.ensures
+bound : (c : lts.After-known_told tie.the-claims reads.Pre reads.Post goal.the-invariant-loop-i goal.the-decreases-loop-i tie.handed_clauses) → CheckIs (here c.before.before.before) (most (byte c.before.before.before)) (Most c.n-1.given.0.0)
+bound c = subst (λ (r : Checked). CheckIs (here c.before.before.before) (most (byte c.before.before.before)) r) c.n-1.given.1 c.check_letter.ensures
 
-refused : (c : goal.In-Refused) → CheckIs (here c.before.before.before) (most (byte c.before.before.before)) (Refused c.in-Refused.r)
-refused c = subst (λ (r : Checked). CheckIs (here c.before.before.before) (most (byte c.before.before.before)) r) c.in-Refused.is c.check_letter.ensures
+refused : (c : lts.After-known_told2 tie.the-claims reads.Pre reads.Post goal.the-invariant-loop-i goal.the-decreases-loop-i tie.handed_clauses) → CheckIs (here c.before.before.before) (most (byte c.before.before.before)) (Refused c.r-1.given.0.0)
+refused c = subst (λ (r : Checked). CheckIs (here c.before.before.before) (most (byte c.before.before.before)) r) c.r-1.given.1 c.check_letter.ensures
 
 pub loop-i-init : goal.loop-i-init
 loop-i-init c = bounded_start _ _
