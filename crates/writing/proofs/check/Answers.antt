@@ -21,17 +21,17 @@ two : (c : lts.Else2 tie.the-claims reads.Pre reads.Post goal.the-invariant-loop
 two c = omega (arith, c.if-i-format.false, c.loop-i-test.true)
 
 -- the letter at hand, and what it writes
-abbrev byte : tie.After-check-letter invariant-loop decreases-loop → ℕ
-byte c = get_or c.before.before.before.before.before.before.before.before.args.format.now (c.before.before.before.before.before.before.loop.i + 1) 0
+abbrev byte : (c : lts.After-check_letter tie.the-claims reads.Pre reads.Post goal.the-invariant-loop-i goal.the-decreases-loop-i tie.handed_clauses) → ℕ
+byte c = get_or c.args.format.now (c.loop-i.i + 1) 0
 
-abbrev here : tie.After-check-letter invariant-loop decreases-loop → Read (List ℕ)
-here c = letter (byte c) (held c.before.before.before.before.before.before.before.before.args.p)
+abbrev here : (c : lts.After-check_letter tie.the-claims reads.Pre reads.Post goal.the-invariant-loop-i goal.the-decreases-loop-i tie.handed_clauses) → Read (List ℕ)
+here c = letter (byte c) (held c.args.p)
 
-bound : (c : lts.After-known_told tie.the-claims reads.Pre reads.Post goal.the-invariant-loop-i goal.the-decreases-loop-i tie.handed_clauses) → CheckIs (here c.before.before.before) (most (byte c.before.before.before)) (Most c.n-1.given.0.0)
-bound c = subst (λ (r : Checked). CheckIs (here c.before.before.before) (most (byte c.before.before.before)) r) c.n-1.given.1 c.check_letter.ensures
+bound : (c : lts.Past-After-known_told tie.the-claims reads.Pre reads.Post goal.the-invariant-loop-i goal.the-decreases-loop-i tie.handed_clauses) → CheckIs (here c.before) (most (byte c.before)) (Most c.in-Most.n)
+bound c = subst (λ (r : Checked). CheckIs (here c.before) (most (byte c.before)) r) c.in-Most.is c.check_letter.ensures
 
-refused : (c : lts.After-known_told2 tie.the-claims reads.Pre reads.Post goal.the-invariant-loop-i goal.the-decreases-loop-i tie.handed_clauses) → CheckIs (here c.before.before.before) (most (byte c.before.before.before)) (Refused c.r-1.given.0.0)
-refused c = subst (λ (r : Checked). CheckIs (here c.before.before.before) (most (byte c.before.before.before)) r) c.r-1.given.1 c.check_letter.ensures
+refused : (c : lts.Past-After-known_told2 tie.the-claims reads.Pre reads.Post goal.the-invariant-loop-i goal.the-decreases-loop-i tie.handed_clauses) → CheckIs (here c.before) (most (byte c.before)) (Refused c.in-Refused.r)
+refused c = subst (λ (r : Checked). CheckIs (here c.before) (most (byte c.before)) r) c.in-Refused.is c.check_letter.ensures
 
 pub loop-i-init : goal.loop-i-init
 loop-i-init c = bounded_start _ _

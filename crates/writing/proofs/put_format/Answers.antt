@@ -20,14 +20,14 @@ two : (c : lts.Else1 tie.the-claims reads.Pre reads.Post goal.the-invariant-loop
 two c = written_two _ _ _ _ c.requires.is_text c.requires.room _ _ _ c.loop-i.invariant c.loop-i-test.true c.if-format-i-ne37.false
 
 -- what the letter at hand writes, and where
-abbrev here : tie.After-put-letter invariant-loop decreases-loop → Put → Type 0
-here c r = let s = c.before.before.before.before.before.before.before.before.before in let l = c.before.before.before.before.before.before.loop in PutIs (letter (get_or s.args.format.now (l.i + 1) 0) (held s.args.p)) l.buf l.next c.put-letter.new.0 r
+abbrev here : (c : lts.After-put_letter tie.the-claims reads.Pre reads.Post goal.the-invariant-loop-i goal.the-decreases-loop-i tie.handed_clauses) → Put → Type 0
+here c r = let l = c.loop-i in PutIs (letter (get_or c.args.format.now (l.i + 1) 0) (held c.args.p)) l.buf l.next c.put_letter.new.buf r
 
-put : (c : lts.After-known_told tie.the-claims reads.Pre reads.Post goal.the-invariant-loop-i goal.the-decreases-loop-i tie.handed_clauses) → here c.before.before.before.before.before (At c.n-1.given.0.0)
-put c = subst (here c.before.before.before.before.before) c.n-1.given.1 c.put_letter.ensures
+put : (c : lts.Past-After-known_told tie.the-claims reads.Pre reads.Post goal.the-invariant-loop-i goal.the-decreases-loop-i tie.handed_clauses) → here c.before.before.before (At c.in-At.n)
+put c = subst (here c.before.before.before) c.in-At.is c.put_letter.ensures
 
-refused : (c : lts.After-known_told2 tie.the-claims reads.Pre reads.Post goal.the-invariant-loop-i goal.the-decreases-loop-i tie.handed_clauses) → ⊥
-refused c = written_refused _ _ _ _ c.requires.is_text c.requires.room _ _ _ c.loop-i.invariant c.loop-i-test.true c.if-format-i-ne37.false _ _ (subst (here c.before.before.before.before.before) c.r-1.given.1 c.put_letter.ensures)
+refused : (c : lts.Past-After-known_told2 tie.the-claims reads.Pre reads.Post goal.the-invariant-loop-i goal.the-decreases-loop-i tie.handed_clauses) → ⊥
+refused c = written_refused _ _ _ _ c.requires.is_text c.requires.room _ _ _ c.loop-i.invariant c.loop-i-test.true c.if-format-i-ne37.false _ _ (subst (here c.before.before.before) c.in-Refused.is c.put_letter.ensures)
 
 pub loop-i-init : goal.loop-i-init
 loop-i-init c = written_start _ _ _ _
