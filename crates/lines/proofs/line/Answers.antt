@@ -13,5 +13,5 @@ show-requires c = let a = c.args in
 
 pub returns : goal.returns
 unfolding line outcome
-returns c = let g = gives_shown c.asked-a.ensures.gives c.asked-a.auto.1.1.1.0 c.show.ensures.value c.show.ensures.out_after in
+returns c = let g = gives_shown c.asked-a.ensures.gives c.asked-a.auto.out c.show.ensures.value c.show.ensures.out_after in
     record { value = g.0; out_after = g.1; room_after = c.asked-a.ensures.room_after }

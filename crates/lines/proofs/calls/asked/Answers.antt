@@ -25,15 +25,18 @@ strftime-requires c = omega (arith, plain_few c.args.s.now (sym c.is_plain.ensur
 
 pub returns-in-General : goal.returns-in-General
 returns-in-General c = let a = c.args in
-    record { gives = (comes_as a.set a.out.now a.room.now (line_call_lem a.s.now _ _ (sym c.is_plain.ensures ∙ c.if-not-is_plain.false) c.field_end-end.ensures c.name_of.ensures c.in-General.is) c.general.ensures).0; room_after = (comes_as a.set a.out.now a.room.now (line_call_lem a.s.now _ _ (sym c.is_plain.ensures ∙ c.if-not-is_plain.false) c.field_end-end.ensures c.name_of.ensures c.in-General.is) c.general.ensures).1 }
+    let g = comes_as a.set a.out.now a.room.now (line_call_lem a.s.now _ _ (sym c.is_plain.ensures ∙ c.if-not-is_plain.false) c.field_end-end.ensures c.name_of.ensures c.in-General.is) (c.general.ensures.gives, c.general.ensures.room_after) in
+    record { gives = g.0; room_after = g.1 }
 
 pub returns-in-Strftime : goal.returns-in-Strftime
 returns-in-Strftime c = let a = c.args in
-    record { gives = (comes_as a.set a.out.now a.room.now (line_call_lem a.s.now _ _ (sym c.is_plain.ensures ∙ c.if-not-is_plain.false) c.field_end-end.ensures c.name_of.ensures c.in-Strftime.is) c.strftime.ensures).0; room_after = (comes_as a.set a.out.now a.room.now (line_call_lem a.s.now _ _ (sym c.is_plain.ensures ∙ c.if-not-is_plain.false) c.field_end-end.ensures c.name_of.ensures c.in-Strftime.is) c.strftime.ensures).1 }
+    let g = comes_as a.set a.out.now a.room.now (line_call_lem a.s.now _ _ (sym c.is_plain.ensures ∙ c.if-not-is_plain.false) c.field_end-end.ensures c.name_of.ensures c.in-Strftime.is) (c.strftime.ensures.gives, c.strftime.ensures.room_after) in
+    record { gives = g.0; room_after = g.1 }
 
 pub returns-in-Timediff : goal.returns-in-Timediff
 returns-in-Timediff c = let a = c.args in
-    record { gives = (comes_as a.set a.out.now a.room.now (line_call_lem a.s.now _ _ (sym c.is_plain.ensures ∙ c.if-not-is_plain.false) c.field_end-end.ensures c.name_of.ensures c.in-Timediff.is) (c.timediff.ensures, timediff_lays (fields_after (drop c.field_end-end.result a.s.now)) a.room.now)).0; room_after = (comes_as a.set a.out.now a.room.now (line_call_lem a.s.now _ _ (sym c.is_plain.ensures ∙ c.if-not-is_plain.false) c.field_end-end.ensures c.name_of.ensures c.in-Timediff.is) (c.timediff.ensures, timediff_lays (fields_after (drop c.field_end-end.result a.s.now)) a.room.now)).1 }
+    let g = comes_as a.set a.out.now a.room.now (line_call_lem a.s.now _ _ (sym c.is_plain.ensures ∙ c.if-not-is_plain.false) c.field_end-end.ensures c.name_of.ensures c.in-Timediff.is) (c.timediff.ensures, timediff_lays (fields_after (drop c.field_end-end.result a.s.now)) a.room.now) in
+    record { gives = g.0; room_after = g.1 }
 
 pub returns-in-Unknown : goal.returns-in-Unknown
 returns-in-Unknown c = let a = c.args in
