@@ -9,6 +9,7 @@ use Rattle.rules.specs.Floats.{number}
 use Rattle.dangsoviey.specs.declared.Reply.{Reply}
 use Rattle.dangsoviey.specs.Replies.{refused_by, reply_of}
 use borrow.Author.Rules.{rules}
+use mir.Val.{SFits}
 use Rattle.dangsoviey.proofs.reply_of.Goals as goal
 
 abbrev numbering : ℤ → Reply
@@ -20,7 +21,9 @@ returns-in-Text c = sym (ap reply_of c.in-Text.is)
 
 pub returns-in-Integer : goal.returns-in-Integer
 unfolding of_bits of_int
-returns-in-Integer c = ap numbering (to_z-of_z w64 _ (record { sfits = c.known_told-in-Integer-1.given.0.1 })) ∙ sym (ap reply_of c.in-Integer.is)
+returns-in-Integer c =
+    let f : SFits w64 c.in-Integer.n = search rules in
+    ap numbering (to_z-of_z w64 _ (record { sfits = f.sfits })) ∙ sym (ap reply_of c.in-Integer.is)
 
 pub returns-in-Real : goal.returns-in-Real
 returns-in-Real c = sym (ap reply_of c.in-Real.is)
