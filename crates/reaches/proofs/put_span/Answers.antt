@@ -34,8 +34,8 @@ returns-in-Refused c = record { value = (refused_put _ _ _ _ _ (said _ _ _) c.al
 
 pub returns-in-Integer : goal.returns-in-Integer
 returns-in-Integer c = let A = c.args in
-    record { value = (no_integer (answer A.set (timediff (bytes A.a.now) (bytes A.b.now))) _ (said_text A.set (bytes A.a.now) (bytes A.b.now)) c.timediff.ensures.value c.in-Integer.is).0; span_after = (no_integer (answer A.set (timediff (bytes A.a.now) (bytes A.b.now))) _ (said_text A.set (bytes A.a.now) (bytes A.b.now)) c.timediff.ensures.value c.in-Integer.is).1 }
+    no_integer (answer A.set (timediff (bytes A.a.now) (bytes A.b.now))) _ (said_text A.set (bytes A.a.now) (bytes A.b.now)) c.timediff.ensures.value c.in-Integer.is
 
 pub returns-in-Real : goal.returns-in-Real
 returns-in-Real c = let A = c.args in
-    record { value = (no_real (answer A.set (timediff (bytes A.a.now) (bytes A.b.now))) _ (said_text A.set (bytes A.a.now) (bytes A.b.now)) c.timediff.ensures.value c.in-Real.is).0; span_after = (no_real (answer A.set (timediff (bytes A.a.now) (bytes A.b.now))) _ (said_text A.set (bytes A.a.now) (bytes A.b.now)) c.timediff.ensures.value c.in-Real.is).1 }
+    no_real (answer A.set (timediff (bytes A.a.now) (bytes A.b.now))) _ (said_text A.set (bytes A.a.now) (bytes A.b.now)) c.timediff.ensures.value c.in-Real.is
