@@ -1,11 +1,11 @@
 -- The days of the week, and the ISO week. Assumes nothing.
 use mathlib.Core.Path.{◌≡◌, refl, sym}
+use Rattle.std.specs.Prelude.{if◌then◌else◌}
 use mathlib.Core.Bool.{Bool, true, false}
 use Prim.Native.Nat.{ℕ, zero, suc, ◌+◌, ◌-◌, ◌*◌, ◌/◌, ◌%◌, ◌≤◌}
 use native.Mathlib.Omega.{arith}
 use lib.Dec.{eqb}
 use borrow.Author.Tests.{eqb-true, eqb-false}
-use Rattle.rules.specs.Basics.{if◌then◌else◌}
 use Rattle.rules.specs.Calendar.{instant, day_length, day_zero, midnight, day_of, since_monday, since_sunday, thursday, iso_week}
 use Rattle.calendar.specs.Ranges.{last_day, InRange}
 use Rattle.calendar.proofs.Years.{leap_le, year_length_lem, in_year}

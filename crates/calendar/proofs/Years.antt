@@ -1,5 +1,6 @@
 -- The leap rule, and the lengths of months and years. Assumes nothing.
 use mathlib.Core.Path.{◌≡◌, refl}
+use Rattle.std.specs.Prelude.{if◌then◌else◌}
 use mathlib.Core.Bool.{Bool, true, false, not, ◌&&◌, ◌||◌}
 use mathlib.Core.List.{List, [], ◌∷◌}
 use Prim.Native.Nat.{ℕ, zero, suc, ◌+◌, ◌-◌, ◌*◌, ◌/◌, ◌%◌, ◌≤◌, ◌<◌}
@@ -7,7 +8,6 @@ use native.Mathlib.Omega.{arith}
 use lib.Dec.{T, eqb, leb, leb→le}
 use lib.ListN.{get_or, take}
 use borrow.Author.Tests.{eqb-true, eqb-false}
-use Rattle.rules.specs.Basics.{if◌then◌else◌}
 use Rattle.rules.specs.Calendar.{year, minus_year, leap, leap_row, common_row, month_lengths, month_length, year_length, sum, years, before_month, day_of_year, days_to}
 use Rattle.calendar.specs.Ranges.{last_day, MonthDay, Countable}
 use Rattle.calendar.proofs.Below.{all, below}

@@ -14,8 +14,7 @@
 // For days 0 to 5373811 the century is at most 147, b 36524, the year of the century 99, x 365.
 #![tactic(auto)]
 
-ghost use Rattle.std.specs.Prelude.{◌≡◌, ◌+◌, ◌≤◌, ◌<◌};
-ghost use Rattle.rules.specs.Basics.{if◌then◌else◌};
+ghost use Rattle.std.specs.Prelude.{if◌then◌else◌, ◌≡◌, ◌+◌, ◌≤◌, ◌<◌};
 ghost use Rattle.rules.specs.Calendar as rule;
 ghost use Rattle.calendar.specs.Ranges.{last_day, MonthDay, Countable, InRange};
 

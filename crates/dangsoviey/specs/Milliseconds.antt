@@ -1,6 +1,6 @@
 -- Whole Unix milliseconds, for loggers.
-use Rattle.std.specs.Prelude.{ℕ, true, List, ◌++◌, ℤ}
-use Rattle.rules.specs.Basics.{if◌then◌else◌, ascii, move, got, ◌>>=◌}
+use Rattle.std.specs.Prelude.{if◌then◌else◌, ℕ, true, List, ◌++◌, ℤ}
+use Rattle.rules.specs.Basics.{ascii, move, got, ◌>>=◌}
 use Rattle.rules.specs.Calendar.{unix_epoch, in_range}
 use Rattle.rules.specs.Calls.{Value, Outcome, text, integer, refused, call}
 use Rattle.rules.specs.Functions.{moment_of, settle, opened}

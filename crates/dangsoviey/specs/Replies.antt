@@ -1,6 +1,5 @@
 -- What is given and what comes back, as plain numbers.
-use Rattle.std.specs.Prelude.{ℕ, eqb, ℤ, pos, Float}
-use Rattle.rules.specs.Basics.{if◌then◌else◌}
+use Rattle.std.specs.Prelude.{if◌then◌else◌, ℕ, eqb, ℤ, pos, Float}
 use Rattle.rules.specs.Calls.{refusal_of}
 use Rattle.rules.specs.Floats.{number}
 use Rattle.rules.specs.declared.Answer.{Answer}

@@ -1,5 +1,6 @@
 -- The answers of the lines that end in a block, one line after another. Assumes nothing.
 use Prim.Native.Nat.{ℕ, suc, ◌+◌, ◌-◌, ◌≤◌, ◌<◌}
+use Rattle.std.specs.Prelude.{if◌then◌else◌}
 use mathlib.Core.Bool.{Bool, true, false, not}
 use mathlib.Core.Path.{◌≡◌, refl, sym, ap, ◌∙◌}
 use mathlib.Core.List.{List, [], ◌∷◌, ◌++◌, append_assoc, append-nil}
@@ -9,7 +10,7 @@ use lib.Dec.{ltb}
 use lib.ListN.{length, take, drop, drop_of_length-le, length-append, take-append-drop}
 use lib.Seq.{drop-cons}
 use borrow.Author.Tests.{ltb-false}
-use Rattle.rules.specs.Basics.{if◌then◌else◌, parts, on_first, front, skip}
+use Rattle.rules.specs.Basics.{parts, on_first, front, skip}
 use Rattle.rules.specs.Program.{line}
 use Rattle.rules.specs.declared.Setting.{Setting}
 use Rattle.text.specs.Places.{part, Passed}

@@ -1,5 +1,6 @@
 -- What refuses a call before anything is read: the code's answers, as the rules' tests. Assumes nothing.
 use mathlib.Core.Bool.{Bool, true, false, ◌||◌}
+use Rattle.std.specs.Prelude.{if◌then◌else◌}
 use mathlib.Core.Path.{◌≡◌, refl, sym, ap, ◌∙◌}
 use mathlib.Core.List.{List, []}
 use Prim.Native.Nat.{ℕ, suc, ◌≤◌, ◌<◌}
@@ -10,7 +11,7 @@ use lib.ListN.{length}
 use lib.IntN.{ℤ, pos, negsuc, nat_abs}
 use lib.Signed.{lt_z}
 use Rattle.rules.specs.Functions.{opened}
-use Rattle.rules.specs.Basics.{if◌then◌else◌, every, Read, refuse}
+use Rattle.rules.specs.Basics.{every, Read, refuse}
 use Rattle.rules.specs.Calls.{Value, value_of, bytes_of, Call, call, strftime, timediff, over, high, modifiers_bad, bad_shape, bad_bytes, bad_setting, far_off}
 use Rattle.rules.specs.declared.Function.{Function}
 use Rattle.rules.specs.declared.Given.{Given}

@@ -1,7 +1,8 @@
 -- The tests before reading, in front of what is then read. Assumes nothing.
 use mathlib.Core.Bool.{Bool, true, false}
+use Rattle.std.specs.Prelude.{if◌then◌else◌}
 use mathlib.Core.Path.{◌≡◌, refl}
-use Rattle.rules.specs.Basics.{if◌then◌else◌, Read, refuse, ◌>>=◌}
+use Rattle.rules.specs.Basics.{Read, refuse, ◌>>=◌}
 use Rattle.rules.specs.Calls.{Call, bad_shape, bad_bytes, bad_setting}
 use Rattle.rules.specs.Functions.{reading, settle, opened, answer}
 use Rattle.rules.specs.declared.Setting.{Setting}

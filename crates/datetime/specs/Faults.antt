@@ -1,6 +1,6 @@
 -- The refusals that are tested before anything is read, as the code's answers.
-use Rattle.rules.specs.Basics.{if◌then◌else◌}
 use Rattle.rules.specs.Calls.{bad_setting}
+use Rattle.std.specs.Prelude.{if◌then◌else◌}
 use Rattle.rules.specs.declared.Setting.{Setting}
 use Rattle.rules.specs.declared.Refusal.{Refusal}
 use Rattle.modifiers.specs.declared.buffer.Fault.{Fault}

@@ -1,5 +1,6 @@
 -- What the limits make of a number: where it is over them, and that to hold numbers up to 10 ^ 19 makes no difference to it. Assumes nothing.
 use mathlib.Core.Path.{◌≡◌, refl, sym, ap, ◌∙◌}
+use Rattle.std.specs.Prelude.{if◌then◌else◌}
 use mathlib.Core.Bool.{Bool, true, false, ◌&&◌}
 use mathlib.Core.List.{List, [], ◌∷◌, ◌++◌}
 use Prim.Native.Nat.{ℕ, ◌+◌, ◌-◌, ◌*◌, ◌^◌, ◌≤◌, ◌<◌, min, zero-le}
@@ -10,7 +11,7 @@ use borrow.Author.Tests.{lt-ltb, le-ltb, le-leb, lt-leb, ne_eqb}
 use lib.Dec.{eqb, ltb, lit≤}
 use lib.Ieee.{Float, binary64, round, neg}
 use Rattle.real.proofs.Sign.{round_neg}
-use Rattle.rules.specs.Basics.{if◌then◌else◌, Read, got, other, refuse, ◌>>=◌}
+use Rattle.rules.specs.Basics.{Read, got, other, refuse, ◌>>=◌}
 use Rattle.rules.specs.Decimal.{value, nearest_to}
 use Rattle.rules.specs.declared.Refusal.{Refusal}
 use Rattle.decimal.specs.Held.{held, held_exponent}

@@ -12,9 +12,9 @@
 // digits after the point, of which a slice has fewer than 2^63, bring it back to 22.
 #![tactic(auto)]
 
-ghost use Rattle.std.specs.Prelude.{◌≡◌, ◌||◌, ◌+◌, ◌*◌, ◌^◌, ◌≤◌, ◌<◌, min, length, drop};
+ghost use Rattle.std.specs.Prelude.{if◌then◌else◌, ◌≡◌, ◌||◌, ◌+◌, ◌*◌, ◌^◌, ◌≤◌, ◌<◌, min, length, drop};
 ghost use Rattle.std.specs.Float.Ieee.{neg};
-ghost use Rattle.rules.specs.Basics.{if◌then◌else◌, is};
+ghost use Rattle.rules.specs.Basics.{is};
 ghost use Rattle.rules.specs.Decimal as rule;
 ghost use Rattle.decimal.specs.AsRead.{as_read};
 ghost use Rattle.decimal.specs.Held.{as_exponent, held, held_exponent, Taken};

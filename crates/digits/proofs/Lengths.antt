@@ -1,5 +1,6 @@
 -- How long the texts of numbers are. Assumes nothing.
 use Prim.Native.Nat.{ℕ, suc, ◌-◌, ◌/◌, ◌%◌, ◌^◌, ◌≤◌, ◌<◌}
+use Rattle.std.specs.Prelude.{if◌then◌else◌}
 use mathlib.Core.Bool.{Bool, true, false}
 use mathlib.Core.Path.{◌≡◌, refl, ap, ◌∙◌}
 use mathlib.Core.List.{List, [], ◌∷◌, ◌++◌}
@@ -8,7 +9,7 @@ use native.Mathlib.Decide.{dec_lt, ℕ_discrete}
 use lib.IntN.{ℤ, pos, negsuc, nat_abs}
 use lib.Ieee.{Float, minus}
 use lib.ListN.{length, length-append}
-use Rattle.rules.specs.Basics.{if◌then◌else◌, is, every, trim_end}
+use Rattle.rules.specs.Basics.{is, every, trim_end}
 use Rattle.rules.specs.Calendar.{instant, last, unix_epoch}
 use Rattle.rules.specs.Floats.{decimals}
 use Rattle.rules.specs.Writing.{places, wide, spaced, integer_text, signed_year, year_short, three_decimals, floor_div, unix_seconds, unix_real, julian_real, julian_text}

@@ -1,7 +1,7 @@
 -- The one contract of every writer. Assumes nothing.
-use Rattle.std.specs.Prelude.{ℕ, ◌+◌, ◌≤◌, ◌≡◌, List, [], ◌++◌, ltb, length}
+use Rattle.std.specs.Prelude.{if◌then◌else◌, ℕ, ◌+◌, ◌≤◌, ◌≡◌, List, [], ◌++◌, ltb, length}
 use Rattle.std.proofs.lemmas.List.Edits.{sets}
-use Rattle.rules.specs.Basics.{if◌then◌else◌, ascii}
+use Rattle.rules.specs.Basics.{ascii}
 use Rattle.rules.specs.Floats.{negative}
 use Rattle.rules.specs.Writing.{three_decimals, unix_real}
 

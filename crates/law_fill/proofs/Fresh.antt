@@ -1,6 +1,7 @@
 -- Where `fill` takes a remainder of days, it is the Rust's, which cuts toward zero: a time below noon of -4713-11-24 is reached there only
 -- at a midnight. For no record that a modifier is given has both its date and its milliseconds standing. Assumes nothing.
 use Prim.Native.Nat.{ℕ, zero, suc, ◌+◌, ◌-◌, ◌*◌, ◌/◌, ◌%◌, ◌≤◌, ◌<◌}
+use Rattle.std.specs.Prelude.{if◌then◌else◌}
 use mathlib.Core.Bool.{Bool, true, false, not, ◌&&◌, ◌||◌}
 use mathlib.Core.Path.{◌≡◌, refl, sym, ap, ◌∙◌, subst}
 use mathlib.Core.List.{List, [], ◌∷◌}
@@ -11,7 +12,7 @@ use lib.Dec.{eqb, leb}
 use lib.IntN.{ℤ, pos, neg_ℤ}
 use lib.Ieee.{Float, binary64, of_int, eq}
 use Rattle.rules.specs.Floats.{number, whole, within, below}
-use Rattle.rules.specs.Basics.{if◌then◌else◌, ascii, is, word, beside, past, only_if, byte, digits, skip, trim, Read, got, other, refuse, ◌or◌, ◌>>=◌}
+use Rattle.rules.specs.Basics.{ascii, is, word, beside, past, only_if, byte, digits, skip, trim, Read, got, other, refuse, ◌or◌, ◌>>=◌}
 use Rattle.rules.specs.Calendar.{year, minus_year, instant, last, day_length, half_day, leap, month_lengths, sum, years, before_month, day_of_year, days_to, day_zero, start, midnight, time_of_day, in_range, civil}
 use Rattle.rules.specs.Calls.{Value, absent, null, bytes, signed, float}
 use Rattle.rules.specs.Decimal.{decimal}

@@ -1,10 +1,10 @@
 -- A record that stands for an instant is counted to it, and filled to its date and time of day. Assumes nothing.
 use Prim.Native.Nat.{ℕ, ◌+◌, ◌*◌, ◌/◌, ◌%◌, ◌≤◌, ◌<◌}
+use Rattle.std.specs.Prelude.{if◌then◌else◌}
 use mathlib.Core.Bool.{Bool, true, false, not, true≢false}
 use mathlib.Core.Path.{◌≡◌, refl, sym, ap, ◌∙◌, subst}
 use native.Mathlib.Omega.{arith}
 use lib.Ieee.{Float, of_int, round, mul, add, to_unsigned}
-use Rattle.rules.specs.Basics.{if◌then◌else◌}
 use Rattle.rules.specs.Calendar.{year, minus_year, day_length, midnight, civil, time_of_day, in_range}
 use Rattle.rules.specs.Floats.{number, ◌⊘◌}
 use Rattle.rules.specs.Moments.{Moment, no_zone, counted, set_ms, set_counted, time_ms, count_ms, on_date, on_time, fill_date, fill_time, fill}

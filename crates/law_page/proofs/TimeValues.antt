@@ -1,5 +1,6 @@
 -- Section 2. Assumes nothing.
 use Prim.Native.Nat.{ℕ, ◌+◌, ◌-◌, ◌*◌, ◌/◌, ◌%◌, ◌≤◌, ◌<◌}
+use Rattle.std.specs.Prelude.{if◌then◌else◌}
 use mathlib.Core.Bool.{Bool, true, false}
 use mathlib.Core.Path.{◌≡◌, refl, sym, ap, ◌∙◌, subst}
 use mathlib.Core.List.{List, [], ◌∷◌, ◌++◌, append_assoc, append-nil}
@@ -9,7 +10,7 @@ use lib.Dec.{eqb, lit≤}
 use lib.IntN.{pos}
 use lib.ListN.{length}
 use lib.Ieee.{Float, binary64, of_int, round}
-use Rattle.rules.specs.Basics.{if◌then◌else◌, ascii, got, other, skip, digits, digits_on, word, every, trim, trim_end}
+use Rattle.rules.specs.Basics.{ascii, got, other, skip, digits, digits_on, word, every, trim, trim_end}
 use Rattle.rules.specs.Calendar.{year, instant, unix_epoch, day_length, Exists, midnight, month_length, month_lengths, leap, civil, time_of_day}
 use Rattle.rules.specs.Decimal.{sign, run, point, exponent, digits_form, named_form, decimal}
 use Rattle.rules.specs.Calls.{absent, bytes, signed}

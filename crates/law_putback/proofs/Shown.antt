@@ -1,11 +1,12 @@
 -- Two records that show the same instant are written alike: by date, time and datetime, and in every format of strftime. Assumes nothing.
 use Prim.Native.Nat.{ℕ, ◌/◌, ◌%◌}
+use Rattle.std.specs.Prelude.{if◌then◌else◌}
 use Prim.Native.Char.{Char}
 use mathlib.Core.Bool.{Bool, true, false}
 use mathlib.Core.Path.{◌≡◌, refl, sym, ap, ◌∙◌}
 use mathlib.Core.List.{List, [], ◌∷◌}
 use lib.Ieee.{Float}
-use Rattle.rules.specs.Basics.{if◌then◌else◌, is, Read, got, ◌>>=◌}
+use Rattle.rules.specs.Basics.{is, Read, got, ◌>>=◌}
 use Rattle.rules.specs.Calendar.{time_of_day, civil}
 use Rattle.rules.specs.Floats.{whole, decimals}
 use Rattle.rules.specs.Functions.{renewed, outcome_of}

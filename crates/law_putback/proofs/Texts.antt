@@ -1,6 +1,7 @@
 -- The bytes of the texts that are given and written: none is zero, none above 127. So none of them is refused, and a zero byte after one
 -- makes it a buffer of one modifier. Assumes nothing.
 use Prim.Native.Nat.{ℕ, zero, suc, ◌+◌, ◌/◌, ◌%◌, ◌^◌, ◌≤◌, ◌<◌}
+use Rattle.std.specs.Prelude.{if◌then◌else◌}
 use mathlib.Core.Bool.{Bool, true, false, ◌||◌, true≢false}
 use mathlib.Core.Path.{◌≡◌, refl, sym, ◌∙◌}
 use mathlib.Core.List.{List, [], ◌∷◌, ◌++◌, map}
@@ -9,7 +10,7 @@ use native.Mathlib.Omega.{arith}
 use borrow.Author.Tests.{le-leb, le-ltb, leb-true, eqb-true, ne_eqb}
 use lib.Dec.{T, eqb, leb, leb→le}
 use lib.ListN.{length}
-use Rattle.rules.specs.Basics.{if◌then◌else◌, ascii, every}
+use Rattle.rules.specs.Basics.{ascii, every}
 use Rattle.rules.specs.Calendar.{day_length}
 use Rattle.rules.specs.Calls.{modifiers, last_ended, modifiers_bad, high}
 use Rattle.rules.specs.Reading.{space}

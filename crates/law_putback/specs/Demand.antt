@@ -4,8 +4,8 @@
 -- months are the most that do not carry B past A; its days are at most 30."
 --
 -- Said over rules' `answer`, `answered`, `after` and `moment_of`. The proof is `demand-3` in proofs/Demand.antt.
-use Rattle.std.specs.Prelude.{ℕ, ◌+◌, ◌-◌, ◌*◌, ◌/◌, ◌≤◌, ◌<◌, Bool, false, ◌≡◌, List, [], ◌∷◌, ◌++◌, leb, length}
-use Rattle.rules.specs.Basics.{if◌then◌else◌, ascii, got}
+use Rattle.std.specs.Prelude.{if◌then◌else◌, ℕ, ◌+◌, ◌-◌, ◌*◌, ◌/◌, ◌≤◌, ◌<◌, Bool, false, ◌≡◌, List, [], ◌∷◌, ◌++◌, leb, length}
+use Rattle.rules.specs.Basics.{ascii, got}
 use Rattle.rules.specs.Calendar.{day_length}
 use Rattle.rules.specs.Calls.{Value, bytes, call, strftime, timediff, text, modifiers, bad_setting, answered, after}
 use Rattle.rules.specs.Functions.{moment_of, answer}

@@ -1,5 +1,6 @@
 -- The names of the functions, byte for byte, and by their first letter: the other names begin with another one. Assumes nothing.
 use Prim.Native.Nat.{ℕ, suc, ◌+◌, ◌≤◌, ◌<◌}
+use Rattle.std.specs.Prelude.{if◌then◌else◌}
 use mathlib.Core.Bool.{Bool, true, false, true≢false}
 use mathlib.Core.Logic.{◌≢◌}
 use mathlib.Core.Path.{◌≡◌, refl, sym, ap, subst, ◌∙◌}
@@ -10,7 +11,7 @@ use lib.Dec.{eqb}
 use lib.ListN.{length, get_or, drop, drop_of_length-le}
 use lib.Seq.{drop-cons}
 use borrow.Author.Tests.{eq-eqb, ne_eqb, eqb-true}
-use Rattle.rules.specs.Basics.{if◌then◌else◌, ascii, Read, got, other, refuse, ◌or◌, ◌>>=◌, only_if}
+use Rattle.rules.specs.Basics.{ascii, Read, got, other, refuse, ◌or◌, ◌>>=◌, only_if}
 use Rattle.rules.specs.Program.{same, general, general_call, strftime_call, fields_call}
 use Rattle.rules.specs.declared.Function.{Function}
 use Rattle.text.proofs.Tests.{and_false, and_left, and_right}

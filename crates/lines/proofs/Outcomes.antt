@@ -1,5 +1,6 @@
 -- What comes of a call: a number needs no room, and none is a NaN. Assumes nothing.
 use Prim.Native.Nat.{ℕ, ◌-◌, ◌≤◌}
+use Rattle.std.specs.Prelude.{if◌then◌else◌}
 use mathlib.Core.Bool.{Bool, true, false, not, ◌&&◌}
 use mathlib.Core.Path.{◌≡◌, refl}
 use mathlib.Core.List.{List}
@@ -8,7 +9,7 @@ use lib.Dec.{T, leb, lit≤}
 use lib.Ieee.{is_nan, of_int, round, div}
 use lib.ListN.{length}
 use borrow.Author.Tests.{leb-true}
-use Rattle.rules.specs.Basics.{if◌then◌else◌, Read, got, other, refuse, ◌>>=◌}
+use Rattle.rules.specs.Basics.{Read, got, other, refuse, ◌>>=◌}
 use Rattle.rules.specs.Calendar.{instant, last, in_range}
 use Rattle.rules.specs.Calls.{Value, Call, call, strftime, timediff, Outcome, text, integer, real, refused, bad_shape, bad_bytes, bad_setting, answered, after}
 use Rattle.rules.specs.Floats.{number}

@@ -1,5 +1,6 @@
 -- Fields, one after another. Assumes nothing.
 use Prim.Native.Nat.{ℕ, suc, ◌+◌, ◌-◌, ◌≤◌, ◌<◌}
+use Rattle.std.specs.Prelude.{if◌then◌else◌}
 use mathlib.Core.Bool.{Bool, true, false, not}
 use mathlib.Core.Path.{◌≡◌, refl, ap, ◌∙◌}
 use mathlib.Core.List.{List, [], ◌∷◌}
@@ -7,7 +8,7 @@ use native.Mathlib.Numerals.{add-one}
 use native.Mathlib.Omega.{arith}
 use lib.ListN.{length, get_or, set, drop, length-drop, drop_of_length-le}
 use lib.Seq.{sets, drop-cons}
-use Rattle.rules.specs.Basics.{if◌then◌else◌, parts, on_first, front, skip}
+use Rattle.rules.specs.Basics.{parts, on_first, front, skip}
 use Rattle.rules.specs.Program.{buffered}
 use Rattle.text.specs.Places.{part, Passed}
 use Rattle.lines.specs.Fields.{is_tab, in_field, fields_after}

@@ -3,6 +3,7 @@
 -- A number has 20 digits at the most, so that only a long format makes a long text: one of 1,024 bytes, of which each letter takes two. No
 -- letter writes more than 32, as the fields that three of them join have two digits.
 use Prim.Native.Nat.{ℕ, zero, suc, ◌+◌, ◌-◌, ◌*◌, ◌/◌, ◌%◌, ◌≤◌}
+use Rattle.std.specs.Prelude.{if◌then◌else◌}
 use Prim.Native.Char.{Char}
 use mathlib.Core.Bool.{Bool, true, false, ◌||◌}
 use mathlib.Core.Path.{◌≡◌, refl, ap}
@@ -13,7 +14,7 @@ use lib.Dec.{T, eqb, ltb, leb, leb→le}
 use lib.IntN.{ℤ, pos, negsuc}
 use lib.Ieee.{Float, binary64, to_bits}
 use lib.ListN.{length, length-append}
-use Rattle.rules.specs.Basics.{if◌then◌else◌, ascii, is, trim_end, Read, got, other, refuse, ◌>>=◌, ◌or◌}
+use Rattle.rules.specs.Basics.{ascii, is, trim_end, Read, got, other, refuse, ◌>>=◌, ◌or◌}
 use Rattle.rules.specs.Calendar.{year, instant, day_of_year, since_monday, since_sunday, thursday, iso_week}
 use Rattle.rules.specs.Calls.{Value, Call, call, strftime, timediff, Outcome, text, integer, real, refused, number_of, over, bytes_of, modifiers_bad, bad_shape}
 use Rattle.rules.specs.Floats.{whole, decimals, negative}

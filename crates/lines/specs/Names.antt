@@ -1,6 +1,6 @@
 -- The names of the functions, as the code classifies them.
-use Rattle.std.specs.Prelude.{ℕ, List}
-use Rattle.rules.specs.Basics.{if◌then◌else◌, ascii, Read, got, other, refuse, ◌or◌, ◌>>=◌, only_if}
+use Rattle.std.specs.Prelude.{if◌then◌else◌, ℕ, List}
+use Rattle.rules.specs.Basics.{ascii, Read, got, other, refuse, ◌or◌, ◌>>=◌, only_if}
 use Rattle.rules.specs.Calls.{Call}
 use Rattle.rules.specs.Program.{same, general, general_call, strftime_call, timediff_call}
 use Rattle.rules.specs.declared.Function.{Function}

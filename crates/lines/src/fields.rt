@@ -1,6 +1,6 @@
 // The fields of a line, which tabs part.
-ghost use Rattle.std.specs.Prelude.{◌≡◌, ◌-◌, ◌≤◌, ◌<◌, length, drop};
-ghost use Rattle.rules.specs.Basics.{if◌then◌else◌, parts};
+ghost use Rattle.std.specs.Prelude.{if◌then◌else◌, ◌≡◌, ◌-◌, ◌≤◌, ◌<◌, length, drop};
+ghost use Rattle.rules.specs.Basics.{parts};
 ghost use Rattle.rules.specs.Program.{buffered};
 ghost use Rattle.text.specs.Places.{Passed};
 ghost use Rattle.digits.specs.Writers.{Laid};

@@ -1,6 +1,5 @@
 // The names of the functions: each is classified once, by its first letter.
-ghost use Rattle.std.specs.Prelude.{◌≡◌};
-ghost use Rattle.rules.specs.Basics.{if◌then◌else◌};
+ghost use Rattle.std.specs.Prelude.{if◌then◌else◌, ◌≡◌};
 ghost use Rattle.rules.specs.Program as rule;
 ghost use Rattle.lines.specs.Names.{name_of, name_d, name_t};
 

@@ -1,6 +1,5 @@
 -- The branch that a test picks. Assumes nothing.
-use Rattle.std.proofs.Common.{◌≡◌, Bool, true, false, ◌&&◌, ◌||◌}
-use Rattle.rules.specs.Basics.{if◌then◌else◌}
+use Rattle.std.proofs.Common.{if◌then◌else◌, ◌≡◌, Bool, true, false, ◌&&◌, ◌||◌}
 
 module _ {A : Type 0} {t : Bool} {x : A} where
   pub pick_then : {a : A} (b : A) → t ≡ true → x ≡ a → x ≡ (if t then a else b)

@@ -1,8 +1,8 @@
 -- One modifier is the step of its kind; a unit's step is that of its name. Assumes nothing.
-use Rattle.std.proofs.Common.{◌≡◌, ℕ, zero, suc, ◌≤◌, Bool, true, false, ◌&&◌, ◌||◌, eqb, List, [], ◌∷◌, length, drop, ℤ, sym, refl, ap, ◌∙◌, true≢false, arith, eqb-true}
+use Rattle.std.proofs.Common.{if◌then◌else◌, ◌≡◌, ℕ, zero, suc, ◌≤◌, Bool, true, false, ◌&&◌, ◌||◌, eqb, List, [], ◌∷◌, length, drop, ℤ, sym, refl, ap, ◌∙◌, true≢false, arith, eqb-true}
 use native.Mathlib.Decide.{dec_le}
 use lib.Ieee.{Float, eq}
-use Rattle.rules.specs.Basics.{if◌then◌else◌, every, ascii, word, beside, only_if, trim, Read, got, other, refuse, ◌or◌, ◌>>=◌}
+use Rattle.rules.specs.Basics.{every, ascii, word, beside, only_if, trim, Read, got, other, refuse, ◌or◌, ◌>>=◌}
 use Rattle.rules.specs.Decimal.{decimal}
 use Rattle.rules.specs.Floats.{number, whole, within}
 use Rattle.rules.specs.Moments.{Moment, set_subsec}

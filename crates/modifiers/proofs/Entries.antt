@@ -1,7 +1,7 @@
 -- The buffer, byte by byte: what refuses it, and its modifiers one after another. Assumes nothing.
-use Rattle.std.proofs.Common.{◌≡◌, ℕ, suc, ◌+◌, ◌<◌, ◌≤◌, Bool, true, false, not, ◌&&◌, ◌||◌, eqb, ltb, ◌≢◌, List, [], ◌∷◌, length, get_or, drop, sym, refl, ap, ◌∙◌, zero-add, add-one, arith, length-drop, drop_of_length-le, drop-cons, drop-drop, ltb-false, le-ltb, lt-ltb, eq-eqb, ne_eqb, eqb-true, le-leb}
+use Rattle.std.proofs.Common.{if◌then◌else◌, ◌≡◌, ℕ, suc, ◌+◌, ◌<◌, ◌≤◌, Bool, true, false, not, ◌&&◌, ◌||◌, eqb, ltb, ◌≢◌, List, [], ◌∷◌, length, get_or, drop, sym, refl, ap, ◌∙◌, zero-add, add-one, arith, length-drop, drop_of_length-le, drop-cons, drop-drop, ltb-false, le-ltb, lt-ltb, eq-eqb, ne_eqb, eqb-true, le-leb}
 use borrow.Author.Tests.{lt-leb, eqb-false, not-true}
-use Rattle.rules.specs.Basics.{if◌then◌else◌, every, on_first, front, skip}
+use Rattle.rules.specs.Basics.{every, on_first, front, skip}
 use Rattle.rules.specs.Calls.{modifiers, last_ended, over, modifiers_bad, high}
 use Rattle.text.specs.Places.{part, Passed}
 use Rattle.text.proofs.Tests.{and_left, and_right}

@@ -1,7 +1,7 @@
 -- The forms of a modifier that counts, case by case, in the order in which they are tried. Assumes nothing.
-use Rattle.std.proofs.Common.{◌≡◌, ℕ, suc, ◌+◌, ◌*◌, ◌<◌, ◌≤◌, Bool, true, false, not, ◌≢◌, List, [], ◌∷◌, length, get_or, drop, nat_abs, sym, refl, ap, ◌∙◌, subst, add-one, arith, drop_of_length-le, drop-cons, ne_eqb}
+use Rattle.std.proofs.Common.{if◌then◌else◌, ◌≡◌, ℕ, suc, ◌+◌, ◌*◌, ◌<◌, ◌≤◌, Bool, true, false, not, ◌≢◌, List, [], ◌∷◌, length, get_or, drop, nat_abs, sym, refl, ap, ◌∙◌, subst, add-one, arith, drop_of_length-le, drop-cons, ne_eqb}
 use lib.Ieee.{Float}
-use Rattle.rules.specs.Basics.{if◌then◌else◌, Read, got, other, refuse, ◌or◌, ◌>>=◌, every, front, skip, trim_end, trim}
+use Rattle.rules.specs.Basics.{Read, got, other, refuse, ◌or◌, ◌>>=◌, every, front, skip, trim_end, trim}
 use Rattle.rules.specs.Decimal.{sign, decimal}
 use Rattle.rules.specs.Floats.{below, cut}
 use Rattle.rules.specs.Moments.{Moment}

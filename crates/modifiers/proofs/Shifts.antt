@@ -1,7 +1,7 @@
 -- What the date form and the time form do, and that a text which timediff writes does exactly what it says. Assumes nothing.
-use Rattle.std.proofs.Common.{◌≡◌, ℕ, zero, suc, ◌+◌, ◌-◌, ◌*◌, ◌/◌, ◌%◌, ◌^◌, ◌<◌, ◌≤◌, Bool, true, false, List, [], ◌∷◌, ◌++◌, ℤ, pos, neg_ℤ, refl, ap, ◌∙◌, append_assoc, arith, ne_eqb}
+use Rattle.std.proofs.Common.{if◌then◌else◌, ◌≡◌, ℕ, zero, suc, ◌+◌, ◌-◌, ◌*◌, ◌/◌, ◌%◌, ◌^◌, ◌<◌, ◌≤◌, Bool, true, false, List, [], ◌∷◌, ◌++◌, ℤ, pos, neg_ℤ, refl, ap, ◌∙◌, append_assoc, arith, ne_eqb}
 use lib.Ieee.{Float}
-use Rattle.rules.specs.Basics.{if◌then◌else◌, move, ascii, Read, got, other, refuse, ◌or◌, byte, digits_on, digits, every, skip, trim_end, trim, word, beside}
+use Rattle.rules.specs.Basics.{move, ascii, Read, got, other, refuse, ◌or◌, byte, digits_on, digits, every, skip, trim_end, trim, word, beside}
 use Rattle.rules.specs.Calendar.{day_length}
 use Rattle.rules.specs.Decimal.{sign}
 use Rattle.rules.specs.Floats.{cut, below}

@@ -1,7 +1,7 @@
 -- Numbers and times of day that were written in full read back. Assumes nothing.
-use Rattle.std.proofs.Common.{◌≡◌, ℕ, zero, suc, ◌+◌, ◌-◌, ◌*◌, ◌/◌, ◌%◌, ◌^◌, ◌<◌, ◌≤◌, max, Bool, true, false, ltb, List, [], ◌∷◌, ◌++◌, refl, ◌∙◌, pow-suc, arith, ltb-false}
+use Rattle.std.proofs.Common.{if◌then◌else◌, ◌≡◌, ℕ, zero, suc, ◌+◌, ◌-◌, ◌*◌, ◌/◌, ◌%◌, ◌^◌, ◌<◌, ◌≤◌, max, Bool, true, false, ltb, List, [], ◌∷◌, ◌++◌, refl, ◌∙◌, pow-suc, arith, ltb-false}
 use lib.Ieee.{Float}
-use Rattle.rules.specs.Basics.{if◌then◌else◌, got, byte, digits, skip}
+use Rattle.rules.specs.Basics.{got, byte, digits, skip}
 use Rattle.rules.specs.Calendar.{day_length}
 use Rattle.rules.specs.Decimal.{run, value}
 use Rattle.rules.specs.Floats.{number, ◌⊕◌}

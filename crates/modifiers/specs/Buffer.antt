@@ -1,6 +1,5 @@
 -- What refuses a text, and the modifiers' buffer, before anything is read.
-use Rattle.std.specs.Prelude.{ℕ, Bool, not, List, ◌==◌}
-use Rattle.rules.specs.Basics.{if◌then◌else◌}
+use Rattle.std.specs.Prelude.{if◌then◌else◌, ℕ, Bool, not, List, ◌==◌}
 use Rattle.rules.specs.Calls.{modifiers_bad, high}
 use Rattle.modifiers.specs.declared.buffer.Fault.{Fault}
 use Rattle.modifiers.specs.declared.buffer.Fault.TheVariants.{Shape, Bytes, Nothing}

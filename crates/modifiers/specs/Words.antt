@@ -1,6 +1,6 @@
 -- The words of modifiers as the code classifies them: the rules' tables, with a name in the place of each step.
-use Rattle.std.specs.Prelude.{ℕ, Bool, ◌||◌, List, [], ◌∷◌, Float}
-use Rattle.rules.specs.Basics.{if◌then◌else◌, ascii, is, is_digit, word, beside, Read, got, other, refuse, ◌or◌, only_if}
+use Rattle.std.specs.Prelude.{if◌then◌else◌, ℕ, Bool, ◌||◌, List, [], ◌∷◌, Float}
+use Rattle.rules.specs.Basics.{ascii, is, is_digit, word, beside, Read, got, other, refuse, ◌or◌, only_if}
 use Rattle.rules.specs.Floats.{number}
 use Rattle.rules.specs.Moments.{Moment}
 use Rattle.rules.specs.Modifiers.{counts, named, by_length, by_months}

@@ -1,6 +1,6 @@
 // The words of modifiers, "compared as bytes, letters in either case": each is classified once, by its first letter.
-ghost use Rattle.std.specs.Prelude.{◌≡◌, ◌||◌};
-ghost use Rattle.rules.specs.Basics.{if◌then◌else◌, word};
+ghost use Rattle.std.specs.Prelude.{if◌then◌else◌, ◌≡◌, ◌||◌};
+ghost use Rattle.rules.specs.Basics.{word};
 ghost use Rattle.modifiers.specs.Words.{kind_of, kind_s, kind_u, kind_w, sign_or_digit, unit_of, unit_m};
 
 // What a modifier is.

@@ -1,5 +1,6 @@
 -- The ranges of the fields, through each step of the rules. Assumes nothing.
 use mathlib.Core.Bool.{Bool, true, false, ◌&&◌}
+use Rattle.std.specs.Prelude.{if◌then◌else◌}
 use mathlib.Core.List.{List, [], ◌∷◌}
 use mathlib.Core.Path.{◌≡◌, refl, sym, ap, ◌∙◌, subst}
 use Prim.Native.Nat.{ℕ, ◌+◌, ◌-◌, ◌*◌, ◌%◌, ◌^◌, ◌≤◌, ◌<◌}
@@ -8,7 +9,7 @@ use borrow.Author.Tests.{leb-true}
 use lib.Dec.{eqb, leb, ltb}
 use lib.IntN.{ℤ}
 use lib.Ieee.{Float, of_int, round, le}
-use Rattle.rules.specs.Basics.{if◌then◌else◌, move}
+use Rattle.rules.specs.Basics.{move}
 use Rattle.rules.specs.Calendar.{year, instant, last, in_range, midnight, civil}
 use Rattle.rules.specs.Floats.{number}
 use Rattle.rules.specs.Functions.{renewed}

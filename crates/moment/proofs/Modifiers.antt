@@ -1,5 +1,6 @@
 -- What each modifier's step of the rules gives, case by case, with the milliseconds moved so far one way or the other. Assumes nothing.
 use mathlib.Core.Bool.{Bool, true, false, not, ◌&&◌}
+use Rattle.std.specs.Prelude.{if◌then◌else◌}
 use mathlib.Core.List.{[]}
 use mathlib.Core.Path.{◌≡◌, refl, sym, ap, ◌∙◌}
 use Prim.Native.Nat.{ℕ, ◌+◌, ◌-◌, ◌*◌, ◌/◌, ◌%◌, ◌≤◌, ◌<◌}
@@ -7,7 +8,7 @@ use native.Mathlib.Nat.{mul-one}
 use borrow.Author.Tests.{leb-true, not-true, le-leb, lt-leb, lt-ltb, le-ltb}
 use lib.Dec.{leb, ltb}
 use lib.IntN.{ℤ, pos, neg_ℤ, ◌*ℤ◌}
-use Rattle.rules.specs.Basics.{if◌then◌else◌, got, refuse, move}
+use Rattle.rules.specs.Basics.{got, refuse, move}
 use Rattle.rules.specs.Calendar.{instant, last, in_range, day_length}
 use Rattle.rules.specs.Functions.{ranged, renewed}
 use Rattle.rules.specs.Moments.{Moment, clear, moved, set_ms, set_date, set_counted, set_dated, set_over, set_raw, set_utc, set_local, count_ms, fill, shift}

@@ -1,11 +1,11 @@
 -- What each step of the rules gives, case by case. Assumes nothing.
 use mathlib.Core.Bool.{Bool, true, false, not}
+use Rattle.std.specs.Prelude.{if◌then◌else◌}
 use mathlib.Core.Path.{◌≡◌, sym, ap, ◌∙◌}
 use Prim.Native.Nat.{ℕ, ◌+◌, ◌≤◌, ◌<◌}
 use native.Mathlib.Omega.{arith}
 use borrow.Author.Tests.{eq-eqb, le-leb, lt-leb, leb-true}
 use lib.Dec.{eqb, leb}
-use Rattle.rules.specs.Basics.{if◌then◌else◌}
 use lib.Ieee.{Float}
 use Rattle.rules.specs.Calendar.{year, minus_year, instant, last, in_range, midnight, civil, time_of_day}
 use Rattle.calendar.specs.Ranges.{MonthDay, Countable}

@@ -1,12 +1,12 @@
 -- The milliseconds of a record's fields, as the date and the time of day that are meant give them. Assumes nothing.
 use mathlib.Core.Bool.{Bool, true, false}
+use Rattle.std.specs.Prelude.{if◌then◌else◌}
 use mathlib.Core.Path.{◌≡◌, refl, sym, ap, ◌∙◌, subst}
 use Prim.Native.Nat.{ℕ, ◌+◌, ◌-◌, ◌*◌}
 use native.Mathlib.Omega.{arith}
 use borrow.Author.Tests.{eq-eqb, ne_eqb, eqb-true}
 use lib.Dec.{eqb}
 use lib.Ieee.{of_int, round, mul, add, to_unsigned}
-use Rattle.rules.specs.Basics.{if◌then◌else◌}
 use Rattle.rules.specs.Calendar.{year, midnight}
 use Rattle.rules.specs.Floats.{number}
 use Rattle.rules.specs.Moments.{Moment, failure, no_zone, counted, clear, set_utc, time_ms, with_time, sum_of, count_ms}

@@ -1,6 +1,5 @@
 -- What the milliseconds of a record's fields are made of.
-use Rattle.std.specs.Prelude.{ℕ, ◌+◌, ◌-◌, ◌*◌, true, false, ◌≡◌, eqb, Float}
-use Rattle.rules.specs.Basics.{if◌then◌else◌}
+use Rattle.std.specs.Prelude.{if◌then◌else◌, ℕ, ◌+◌, ◌-◌, ◌*◌, true, false, ◌≡◌, eqb, Float}
 use Rattle.rules.specs.Calendar.{year, midnight}
 use Rattle.rules.specs.Floats.{number}
 use Rattle.rules.specs.Moments as rule

@@ -1,6 +1,5 @@
 -- What the code that puts timediff's text back answers, on all inputs and for A and B of demand 3.
-use Rattle.std.specs.Prelude.{ℕ, ◌≤◌, false, ◌≡◌, List, [], leb, length}
-use Rattle.rules.specs.Basics.{if◌then◌else◌}
+use Rattle.std.specs.Prelude.{if◌then◌else◌, ℕ, ◌≤◌, false, ◌≡◌, List, [], leb, length}
 use Rattle.rules.specs.Calls.{Value, bytes, Call, timediff, Outcome, text, integer, real, refused, bad_setting, answered, after}
 use Rattle.rules.specs.Functions.{answer}
 use Rattle.rules.specs.declared.Setting.{Setting}

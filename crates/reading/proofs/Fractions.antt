@@ -1,5 +1,6 @@
 -- The seconds of a time of day, with their fraction. Assumes nothing.
 use Prim.Native.Nat.{ℕ, suc, ◌+◌, ◌-◌, ◌≤◌, ◌<◌}
+use Rattle.std.specs.Prelude.{if◌then◌else◌}
 use mathlib.Core.Bool.{Bool, true, false, true≢false}
 use mathlib.Core.Path.{◌≡◌, refl, sym, ap, ◌∙◌}
 use mathlib.Core.List.{List, [], ◌∷◌}
@@ -7,7 +8,7 @@ use native.Mathlib.Omega.{arith}
 use lib.Ieee.{Float, of_int, round, le, lt}
 use lib.ListN.{length, drop}
 use lib.Seq.{drop-drop}
-use Rattle.rules.specs.Basics.{if◌then◌else◌, is, is_digit, got, other, digits}
+use Rattle.rules.specs.Basics.{is, is_digit, got, other, digits}
 use Rattle.rules.specs.Floats.{number, ◌⊕◌}
 use Rattle.rules.specs.Decimal.{run}
 use Rattle.rules.specs.Reading.{fraction_of, fraction_in, fraction, seconds_in, seconds}

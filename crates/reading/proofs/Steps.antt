@@ -1,5 +1,6 @@
 -- One form after another, and a character at a place. Assumes nothing.
 use Prim.Native.Nat.{ℕ, zero, suc, ◌+◌, ◌-◌, ◌*◌, ◌≤◌, ◌<◌}
+use Rattle.std.specs.Prelude.{if◌then◌else◌}
 use Prim.Native.Char.{Char, code}
 use mathlib.Core.Bool.{Bool, true, false, ◌&&◌, true≢false}
 use mathlib.Core.Logic.{◌≢◌}
@@ -12,7 +13,7 @@ use borrow.Author.Tests.{eq-eqb, ne_eqb}
 use lib.Dec.{leb}
 use lib.ListN.{length, get_or, drop, drop_of_length-le}
 use lib.Seq.{drop-cons}
-use Rattle.rules.specs.Basics.{if◌then◌else◌, is, is_digit, Read, got, other, refuse, ◌>>=◌, ◌or◌, only_if, ended, byte, digits_on, digits}
+use Rattle.rules.specs.Basics.{is, is_digit, Read, got, other, refuse, ◌>>=◌, ◌or◌, only_if, ended, byte, digits_on, digits}
 use Rattle.text.specs.Places.{begins}
 
 -- nothing after the last form

@@ -1,6 +1,6 @@
 -- What a reader's answer stands for in the rules, and the bounds that callers need of it.
-use Rattle.std.specs.Prelude.{ℕ, ◌+◌, ◌-◌, ◌≤◌, Bool, true, ◌||◌, ◌≡◌, List, eqb, Float, length, drop}
-use Rattle.rules.specs.Basics.{if◌then◌else◌, ascii, word, Read, got, other, refuse, ◌>>=◌, ◌or◌, only_if, byte, digits}
+use Rattle.std.specs.Prelude.{if◌then◌else◌, ℕ, ◌+◌, ◌-◌, ◌≤◌, Bool, true, ◌||◌, ◌≡◌, List, eqb, Float, length, drop}
+use Rattle.rules.specs.Basics.{ascii, word, Read, got, other, refuse, ◌>>=◌, ◌or◌, only_if, byte, digits}
 use Rattle.rules.specs.Calendar.{year, minus_year}
 use Rattle.rules.specs.Moments as rule
 use Rattle.rules.specs.Moments.{no_zone, blank, set_subsec}

@@ -1,7 +1,7 @@
 -- The digits at the front of a text: crate rules' `run`, one byte at a time, and at a place of a slice. Assumes nothing.
-use Rattle.std.proofs.Common.{◌≡◌, ℕ, suc, ◌+◌, ◌-◌, ◌<◌, ◌≤◌, Bool, true, false, ◌&&◌, leb, List, [], ◌∷◌, length, get_or, drop, refl, zero-le, add-one, arith, length-drop, drop_of_length-le, drop-cons, le-leb, leb-true}
+use Rattle.std.proofs.Common.{if◌then◌else◌, ◌≡◌, ℕ, suc, ◌+◌, ◌-◌, ◌<◌, ◌≤◌, Bool, true, false, ◌&&◌, leb, List, [], ◌∷◌, length, get_or, drop, refl, zero-le, add-one, arith, length-drop, drop_of_length-le, drop-cons, le-leb, leb-true}
 use borrow.Author.Tests.{lt-leb}
-use Rattle.rules.specs.Basics.{if◌then◌else◌, is_digit}
+use Rattle.rules.specs.Basics.{is_digit}
 use Rattle.rules.specs.Decimal.{run}
 
 run_digit : (b : ℕ) (s : List ℕ) → 48 ≤ b → b ≤ 57 → run (b ∷ s) ≡ ((b - 48) ∷ (run s).0, (run s).1)

@@ -1,6 +1,6 @@
 -- A magnitude of at most y, for a y that is finite and not negative, stays so through each operation: f64's rounding keeps the order.
 -- So what comes of every number up to a limit is bounded by what comes of the limit, which is computed. Assumes nothing.
-use Rattle.std.proofs.Common.{◌≡◌, ℕ, zero, suc, ◌+◌, ◌-◌, ◌*◌, ◌/◌, ◌^◌, ◌<◌, ◌≤◌, min, Bool, true, false, cond, not, ◌&&◌, ◌||◌, T, eqb, ltb, ℤ, pos, neg_ℤ, nat_abs, sym, refl, ap, ◌∙◌, subst, true≢false, le_trans, le_of_eq, le_refl, le_of_lt, add-le-add, mul-le-mul_right, mul_assoc, mul_comm, add-mul, mul-le-mul, mul-pos, mul_right_comm, mul_left_comm, arith, ltb→lt, ltb-true, ne_eqb, eqb-true}
+use Rattle.std.proofs.Common.{if◌then◌else◌, ◌≡◌, ℕ, zero, suc, ◌+◌, ◌-◌, ◌*◌, ◌/◌, ◌^◌, ◌<◌, ◌≤◌, min, Bool, true, false, cond, not, ◌&&◌, ◌||◌, T, eqb, ltb, ℤ, pos, neg_ℤ, nat_abs, sym, refl, ap, ◌∙◌, subst, true≢false, le_trans, le_of_eq, le_refl, le_of_lt, add-le-add, mul-le-mul_right, mul_assoc, mul_comm, add-mul, mul-le-mul, mul-pos, mul_right_comm, mul_left_comm, arith, ltb→lt, ltb-true, ne_eqb, eqb-true}
 use native.Mathlib.Nat.{mul-mul-mul_comm}
 use lib.Ieee.{Float, nan, inf, fin, Format, binary64, prec, low, emax, unlike, up, down, odd, units, round, neg, sum, add, sub, mul, div, lt, le, to_signed, to_unsigned}
 use lib.Ieee.Bits.{is_true}
@@ -9,7 +9,6 @@ use lib.Ieee.Fits.{down_pos, up_pos, round_is}
 use lib.Ieee.Nearest.{closest_mono, div_mono}
 use lib.Ieee.Order.{round_mono, kept, drop}
 use lib.Ieee.Positive.{num, den, den_pos, positive}
-use Rattle.rules.specs.Basics.{if◌then◌else◌}
 use Rattle.rules.specs.Floats.{number, half, decimals, cut, whole, ◌⊕◌, ◌⊖◌, ◌⊗◌, ◌⊘◌}
 use Rattle.rules.specs.Modifiers.{rounded}
 use Rattle.real.proofs.Sign.{round_neg}

@@ -1,6 +1,6 @@
 -- The seven functions, and the order of refusals. `answer` is the definition that the public contracts cite.
-use Rattle.std.specs.Prelude.{ℕ, false, not, ◌&&◌, List, [], ◌∷◌, ◌++◌, ltb}
-use Rattle.rules.specs.Basics.{if◌then◌else◌, ascii, Read, got, other, refuse, ◌>>=◌}
+use Rattle.std.specs.Prelude.{if◌then◌else◌, ℕ, false, not, ◌&&◌, List, [], ◌∷◌, ◌++◌, ltb}
+use Rattle.rules.specs.Basics.{ascii, Read, got, other, refuse, ◌>>=◌}
 use Rattle.rules.specs.Calls.{Value, absent, null, bytes, signed, float, Call, call, strftime, timediff, Outcome, text, integer, real, refused, modifiers, bad_shape, bad_bytes, bad_setting}
 use Rattle.rules.specs.Calendar.{in_range}
 use Rattle.rules.specs.Moments.{Moment, set_dated, count_ms, fill}

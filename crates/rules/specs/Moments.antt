@@ -1,6 +1,6 @@
 -- The record, "civil fields whose seconds are a 64-bit float, beside milliseconds and flags", and the steps that fill it.
-use Rattle.std.specs.Prelude.{ℕ, ◌+◌, ◌-◌, ◌*◌, ◌/◌, ◌%◌, Bool, true, false, not, ◌&&◌, ℤ, Float, eqb, leb}
-use Rattle.rules.specs.Basics.{move, if◌then◌else◌}
+use Rattle.std.specs.Prelude.{if◌then◌else◌, ℕ, ◌+◌, ◌-◌, ◌*◌, ◌/◌, ◌%◌, Bool, true, false, not, ◌&&◌, ℤ, Float, eqb, leb}
+use Rattle.rules.specs.Basics.{move}
 use Rattle.rules.specs.Floats.{number, ◌⊕◌, ◌⊗◌, ◌⊘◌, half, whole}
 use Rattle.rules.specs.Calendar.{year, instant, minus_year, in_range, month_length, midnight, time_of_day, civil}
 use Rattle.rules.specs.Types.{Ymd}

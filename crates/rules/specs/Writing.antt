@@ -1,9 +1,9 @@
 -- Writing: digits, dates and times, the letters of strftime, and timediff.
-use Rattle.std.specs.Prelude.{ℕ, zero, suc, ◌+◌, ◌-◌, ◌*◌, ◌/◌, ◌%◌, ◌^◌, max, ◌||◌, Bool, List, [], ◌∷◌, ◌++◌, eqb, ltb, leb, ℤ, pos, negsuc, Float}
+use Rattle.std.specs.Prelude.{if◌then◌else◌, ℕ, zero, suc, ◌+◌, ◌-◌, ◌*◌, ◌/◌, ◌%◌, ◌^◌, max, ◌||◌, Bool, List, [], ◌∷◌, ◌++◌, eqb, ltb, leb, ℤ, pos, negsuc, Float}
 use Prim.Native.Char.{Char}
 use Rattle.std.specs.Float.{binary64}
 use Rattle.std.specs.Float.Ieee.{of_int, minus}
-use Rattle.rules.specs.Basics.{if◌then◌else◌, ascii, is, trim_end, Read, got, refuse, ◌>>=◌}
+use Rattle.rules.specs.Basics.{ascii, is, trim_end, Read, got, refuse, ◌>>=◌}
 use Rattle.rules.specs.Floats.{number, ◌⊘◌, whole, decimals, negative}
 use Rattle.rules.specs.Calendar.{year, instant, unix_epoch, since_monday, since_sunday, thursday, iso_week, day_of_year, day_length, midnight, time_of_day, civil}
 use Rattle.rules.specs.Moments.{Moment}

@@ -1,6 +1,7 @@
 -- Digits: at one place after another, a number of them as a whole, and digits that were written. Of a law's names here and in Runs and Words,
 -- `-on` goes on past a byte that passes, `-stop` is at one that does not, `-past` past the end. Assumes nothing.
 use Prim.Native.Nat.{ℕ, zero, suc, ◌+◌, ◌-◌, ◌*◌, ◌/◌, ◌%◌, ◌^◌, ◌≤◌, ◌<◌}
+use Rattle.std.specs.Prelude.{if◌then◌else◌}
 use mathlib.Core.Bool.{Bool, true, false, ◌&&◌}
 use mathlib.Core.Path.{◌≡◌, refl, ap, ◌∙◌}
 use mathlib.Core.List.{List, [], ◌∷◌, ◌++◌}
@@ -12,7 +13,7 @@ use lib.Dec.{leb, lit<, lit≤}
 use lib.ListN.{length, get_or, drop, drop_of_length-le}
 use lib.Seq.{drop-cons}
 use borrow.Author.Tests.{leb-true, le-leb}
-use Rattle.rules.specs.Basics.{if◌then◌else◌, is_digit, Read, got, other, refuse, ◌>>=◌, only_if, digits, digits_on}
+use Rattle.rules.specs.Basics.{is_digit, Read, got, other, refuse, ◌>>=◌, only_if, digits, digits_on}
 use Rattle.rules.specs.Decimal.{run}
 use Rattle.rules.specs.Writing.{places}
 use Rattle.text.specs.Places.{found, Told, limited}

@@ -1,5 +1,6 @@
 -- Runs of bytes that pass a test f: at the front of what stands at a place, and at the end of a text. Assumes nothing.
 use Prim.Native.Nat.{ℕ, suc, ◌+◌, ◌-◌, ◌≤◌, ◌<◌}
+use Rattle.std.specs.Prelude.{if◌then◌else◌}
 use mathlib.Core.Bool.{Bool, true, false, not, ◌&&◌}
 use mathlib.Core.Path.{◌≡◌, refl, ap, sym, ◌∙◌}
 use mathlib.Core.List.{List, [], ◌∷◌, ◌++◌}
@@ -7,7 +8,7 @@ use native.Mathlib.Numerals.{add-one}
 use native.Mathlib.Omega.{arith}
 use lib.ListN.{length, get_or, take, drop, length-drop, drop_of_length-le}
 use lib.Seq.{drop-cons, drop-drop, take-suc, take_all, get_or-drop}
-use Rattle.rules.specs.Basics.{if◌then◌else◌, every, skip, front, trim_end}
+use Rattle.rules.specs.Basics.{every, skip, front, trim_end}
 use Rattle.text.specs.Places.{part, end_at, Passed}
 use Rattle.text.proofs.Tests.{and_true, and_false}
 

@@ -1,7 +1,7 @@
 -- How the code's places in a slice meet the rules' lists, of which a reader takes the front off: what stands at the place `at` of s is
 -- `drop at s`. Definitions for this crate's contracts.
-use Rattle.std.specs.Prelude.{ℕ, ◌+◌, ◌-◌, ◌≤◌, max, Bool, false, not, ◌&&◌, ◌||◌, ◌≡◌, List, [], ◌∷◌, eqb, leb, length, take, drop}
-use Rattle.rules.specs.Basics.{if◌then◌else◌, is, word, Read, got, other, skip, front}
+use Rattle.std.specs.Prelude.{if◌then◌else◌, ℕ, ◌+◌, ◌-◌, ◌≤◌, max, Bool, false, not, ◌&&◌, ◌||◌, ◌≡◌, List, [], ◌∷◌, eqb, leb, length, take, drop}
+use Rattle.rules.specs.Basics.{is, word, Read, got, other, skip, front}
 use Rattle.rules.specs.Reading.{space}
 use Rattle.rules.specs.Modifiers.{wide_space}
 use Rattle.text.specs.declared.Found.{Found}

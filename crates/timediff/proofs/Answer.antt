@@ -1,12 +1,13 @@
 -- From the two ways to what `difference` gives: the sign, and the text of rules. Assumes nothing.
 use mathlib.Core.Path.{◌≡◌, refl, sym, ◌∙◌, ap}
+use Rattle.std.specs.Prelude.{if◌then◌else◌}
 use mathlib.Core.Bool.{Bool, true, false}
 use mathlib.Core.List.{◌++◌}
 use Prim.Native.Nat.{ℕ, ◌+◌, ◌-◌, ◌*◌, ◌/◌, ◌≤◌, ◌<◌}
 use native.Mathlib.Omega.{arith}
 use borrow.Author.Tests.{leb-true, leb-false, le-leb, lt-leb}
 use lib.Dec.{leb}
-use Rattle.rules.specs.Basics.{if◌then◌else◌, ascii}
+use Rattle.rules.specs.Basics.{ascii}
 use Rattle.rules.specs.Calendar.{year, minus_year, day_length}
 use Rattle.rules.specs.Writing.{shift_text, forward, backward, difference}
 use Rattle.calendar.specs.Ranges.{InRange}

@@ -1,5 +1,6 @@
 -- The text of timediff: its length, its parts, its sign, and the text of equal instants. Assumes nothing.
 use mathlib.Core.Path.{◌≡◌, refl, sym, ◌∙◌, ap}
+use Rattle.std.specs.Prelude.{if◌then◌else◌}
 use mathlib.Core.Bool.{Bool, true, false}
 use mathlib.Core.List.{List, ◌∷◌, ◌++◌, append_assoc}
 use Prim.Native.Nat.{ℕ, suc, ◌+◌, ◌-◌, ◌*◌, ◌/◌, ◌%◌, ◌≤◌, ◌<◌}
@@ -7,7 +8,7 @@ use native.Mathlib.Omega.{arith}
 use borrow.Author.Tests.{ltb-true, ltb-false, lt-ltb, le-ltb}
 use lib.Dec.{ltb, leb}
 use lib.ListN.{length, take, length-append}
-use Rattle.rules.specs.Basics.{if◌then◌else◌, ascii}
+use Rattle.rules.specs.Basics.{ascii}
 use Rattle.rules.specs.Calendar.{year, day_length, civil}
 use Rattle.rules.specs.Writing.{places, width, wide, shift_text, difference}
 use Rattle.calendar.specs.Ranges.{InRange}

@@ -1,7 +1,7 @@
 -- timediff's numbers: what rules' `forward` and `backward` write, both ways at once. A is the instant to be reached, B the one that is moved:
 -- forward where `plus` is true, backward where it is false.
-use Rattle.std.specs.Prelude.{ℕ, ◌+◌, ◌-◌, ◌*◌, ◌/◌, ◌%◌, ◌≤◌, ◌<◌, Bool, true, false, ◌≡◌, List, [], ◌∷◌, ◌++◌, ltb, leb}
-use Rattle.rules.specs.Basics.{if◌then◌else◌, ascii}
+use Rattle.std.specs.Prelude.{if◌then◌else◌, ℕ, ◌+◌, ◌-◌, ◌*◌, ◌/◌, ◌%◌, ◌≤◌, ◌<◌, Bool, true, false, ◌≡◌, List, [], ◌∷◌, ◌++◌, ltb, leb}
+use Rattle.rules.specs.Basics.{ascii}
 use Rattle.rules.specs.Calendar.{day_length, civil}
 use Rattle.rules.specs.Writing.{wide, month_of, in_month, back_off, shift_text, difference}
 use Rattle.timediff.specs.declared.Span.{Span}

@@ -1,5 +1,6 @@
 -- The bound of a format: the sum of its letters' bounds, one for any other byte. Assumes nothing.
 use Prim.Native.Nat.{ℕ, suc, ◌+◌, ◌*◌, ◌≤◌, ◌<◌}
+use Rattle.std.specs.Prelude.{if◌then◌else◌}
 use Prim.Native.Char.{Char}
 use mathlib.Core.Bool.{Bool, true, false, ◌&&◌}
 use mathlib.Core.Path.{◌≡◌, refl, sym, ap, ◌∙◌}
@@ -10,7 +11,7 @@ use borrow.Author.Tests.{eq-eqb, ne_eqb}
 use lib.Dec.{T, leb, leb→le}
 use lib.ListN.{length, get_or, drop, drop_of_length-le}
 use lib.Seq.{drop-cons}
-use Rattle.rules.specs.Basics.{if◌then◌else◌, is, Read, got, other, refuse}
+use Rattle.rules.specs.Basics.{is, Read, got, other, refuse}
 use Rattle.writing.specs.Formats.{CheckIs, mosts, most_in, most, most_of}
 use Rattle.writing.specs.declared.Checked.{Checked}
 use Rattle.writing.specs.declared.Checked.TheVariants.{Most, Refused}

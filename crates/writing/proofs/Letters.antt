@@ -1,5 +1,6 @@
 -- What each letter writes, and how many bytes. Assumes nothing.
 use Prim.Native.Nat.{ℕ, ◌+◌, ◌-◌, ◌/◌, ◌%◌, ◌≤◌, ◌<◌}
+use Rattle.std.specs.Prelude.{if◌then◌else◌}
 use Prim.Native.Char.{Char, code}
 use mathlib.Core.Bool.{Bool, true, false, ◌&&◌}
 use mathlib.Core.Path.{◌≡◌, refl, subst}
@@ -10,7 +11,7 @@ use native.Mathlib.Decide.{dec_lt}
 use borrow.Author.Tests.{eqb-true}
 use lib.Dec.{T, eqb, ltb, leb, eqb→eq, leb→le, lit<}
 use lib.ListN.{length}
-use Rattle.rules.specs.Basics.{if◌then◌else◌, is, every, Read, got, refuse, ◌>>=◌}
+use Rattle.rules.specs.Basics.{is, every, Read, got, refuse, ◌>>=◌}
 use Rattle.rules.specs.Calendar.{instant, day_of_year, since_monday, since_sunday, thursday, iso_week}
 use Rattle.rules.specs.Floats.{whole}
 use Rattle.rules.specs.Moments.{Moment}

@@ -1,7 +1,7 @@
 -- What the functions over letters and formats answer.
-use Rattle.std.specs.Prelude.{ℕ, ◌+◌, ◌≤◌, ◌≡◌, List, [], ◌∷◌, length}
+use Rattle.std.specs.Prelude.{if◌then◌else◌, ℕ, ◌+◌, ◌≤◌, ◌≡◌, List, [], ◌∷◌, length}
 use Prim.Native.Char.{Char}
-use Rattle.rules.specs.Basics.{if◌then◌else◌, is, Read, got, other, refuse}
+use Rattle.rules.specs.Basics.{is, Read, got, other, refuse}
 use Rattle.digits.specs.Writers.{Laid}
 use Rattle.writing.specs.declared.Put.{Put}
 use Rattle.writing.specs.declared.Put.TheVariants as put

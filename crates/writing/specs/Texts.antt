@@ -1,6 +1,6 @@
 -- Rules' texts, or parts of them, by the fields that they show.
-use Rattle.std.specs.Prelude.{ℕ, ◌+◌, ◌-◌, ◌/◌, Bool, List, [], ◌∷◌, ◌++◌, leb, Float}
-use Rattle.rules.specs.Basics.{if◌then◌else◌, ascii}
+use Rattle.std.specs.Prelude.{if◌then◌else◌, ℕ, ◌+◌, ◌-◌, ◌/◌, Bool, List, [], ◌∷◌, ◌++◌, leb, Float}
+use Rattle.rules.specs.Basics.{ascii}
 use Rattle.rules.specs.Calendar.{day_of_year}
 use Rattle.rules.specs.Writing.{signed_year, wide, second_text, three_decimals, integer_text, unix_seconds}
 use Rattle.digits.specs.Writers.{unix_decimals}

@@ -1,12 +1,12 @@
 -- `calendar::day_of_year` meets its contract.
 use mathlib.Core.Path.{◌≡◌}
+use Rattle.std.specs.Prelude.{if◌then◌else◌}
 use mathlib.Core.Bool.{Bool, true, false}
 use mathlib.Core.List.{List, [], ◌∷◌}
 use Prim.Native.Nat.{ℕ, ◌+◌, ◌-◌, ◌≤◌, ◌<◌}
 use native.Mathlib.Omega.{arith}
 use lib.Dec.{eqb, eqb→eq}
 use lib.ListN.{get_or, take}
-use Rattle.rules.specs.Basics.{if◌then◌else◌}
 use Rattle.rules.specs.Calendar.{leap, common_row, leap_row, month_lengths, sum, before_month, day_of_year}
 use Rattle.calendar.specs.Ranges.{MonthDay}
 use Rattle.calendar.proofs.Below.{below}

@@ -1,8 +1,9 @@
 -- `decimal::named` meets its contract. Assumes nothing.
 use mathlib.Core.Path.{◌≡◌, refl, sym, ap, ◌∙◌}
+use Rattle.std.specs.Prelude.{if◌then◌else◌}
 use mathlib.Core.Bool.{Bool, true, false}
 use lib.Ieee.{Float, inf, binary64, of_bits, div, neg}
-use Rattle.rules.specs.Basics.{if◌then◌else◌, ascii, word, got}
+use Rattle.rules.specs.Basics.{ascii, word, got}
 use Rattle.decimal.proofs.Readers.{named_inf, named_infinity, named_nan, named_none}
 use Rattle.decimal.proofs.named.Goals as goal
 use Rattle.decimal.proofs.named.Tie as tie

@@ -1,11 +1,12 @@
 -- `decimal::nearest_to` meets its contract. Assumes nothing.
 use mathlib.Core.Path.{◌≡◌, refl, sym, ap, ◌∙◌}
+use Rattle.std.specs.Prelude.{if◌then◌else◌}
 use mathlib.Core.Bool.{Bool, false}
 use Prim.Native.Nat.{◌-◌, ◌*◌, ◌^◌}
 use native.Mathlib.Nat.{le_of_lt}
 use native.Mathlib.Omega.{arith}
 use lib.Ieee.{Float, binary64, of_bits, round, neg}
-use Rattle.rules.specs.Basics.{if◌then◌else◌, got}
+use Rattle.rules.specs.Basics.{got}
 use Rattle.decimal.proofs.Limits.{too_high, too_low, too_long, none, raised, divided, refused, signed}
 use Rattle.decimal.proofs.nearest_to.Goals as goal
 

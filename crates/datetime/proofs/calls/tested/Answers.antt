@@ -1,7 +1,7 @@
 -- `datetime::calls::tested` meets its contract. Assumes nothing.
 use mathlib.Core.Bool.{Bool}
+use Rattle.std.specs.Prelude.{if◌then◌else◌}
 use mathlib.Core.Path.{sym, ap, ◌∙◌}
-use Rattle.rules.specs.Basics.{if◌then◌else◌}
 use Rattle.rules.specs.declared.Refusal.{Refusal}
 use Rattle.modifiers.specs.declared.buffer.Fault.{Fault}
 use Rattle.datetime.specs.declared.calls.Gate.TheVariants.{Open, Refused}

@@ -1,6 +1,5 @@
 -- `modifiers::buffer::fault_of` meets its contract. Assumes nothing.
-use Rattle.std.proofs.Common.{sym, ap, ◌∙◌, arith}
-use Rattle.rules.specs.Basics.{if◌then◌else◌}
+use Rattle.std.proofs.Common.{if◌then◌else◌, sym, ap, ◌∙◌, arith}
 use Rattle.modifiers.specs.declared.buffer.Fault.TheVariants.{Bytes, Nothing}
 use Rattle.modifiers.proofs.Entries.{fault_start, fault_zero, fault_many, fault_byte, fault_high, fault_long, fault_open, fault_end}
 use Rattle.modifiers.proofs.buffer.fault_of.Goals as goal
