@@ -18,6 +18,7 @@ STOP = r"\s(){}\[\];,.\"`«»"
 PART = re.compile(r"[^%s]+" % STOP)
 HEAD = re.compile(r"^(?:(?:abbrev|unfoldable|pub|data|record|opaque)\s+)*([^\s:(){}.]+)\s+:\s(.*)$")
 INNER = re.compile(r"^\s+(?:(?:abbrev|unfoldable|pub)\s+)*([a-z][^\s:(){}.]*)\s+:\s")
+INSIDE = "inside a module: "
 FIELD = re.compile(r"^\s+(?:pub\s+)?((?:[^\s:(){}.]+\s+)+):\s")
 
 # Lemmas whose name, in snake case already, would fall together with a definition's in these files.
@@ -69,7 +70,7 @@ def declared():
             elif re.match(r"^(?:pub\s+)?(?:data|record)\s", line):
                 inside = "block"
             elif not inside and INNER.match(line) and not line.lstrip().startswith("let "):
-                found[INNER.match(line).group(1)].add((path, line))
+                found[INNER.match(line).group(1)].add((path, INSIDE + line))
             elif inside and FIELD.match(line):
                 for name in FIELD.match(line).group(1).split():
                     found[name].add((path, line))
@@ -82,8 +83,8 @@ def table():
     new = {}
     found = declared()
     # where a lemma would get the name of a definition, the lemma gives way
-    taken = {name for name in found if "-" not in name and not re.search(r"[a-z0-9][A-Z]", name)}
-    taken |= WORDS | {snake(name) for name in found if "-" not in name}
+    outer = [name for name, places in found.items() if not all(kind.startswith(INSIDE) for _, kind in places)]
+    taken = WORDS | {snake(name) for name in outer if "-" not in name}
     for name, places in found.items():
         if re.search(r"-.*_|_.*-", name) or not re.match(r"^[a-z]", name) or not re.search(r"-|[a-z0-9][A-Z]", name):
             continue
