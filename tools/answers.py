@@ -44,6 +44,7 @@ class Function:
         self.left = []
         self.answered = {}
         self.cited = set()
+        self.lemma_places = {}
         self.exported, self.given = exported(gen)
 
     def key(self, said, name):
@@ -134,14 +135,14 @@ class Function:
 
     def term(self, text, scope, goal):
         """The term with its paths renamed; scope: a variable to (what it is written as, its place, how far up that is)."""
-        scope = {v: (x if len(x) == 3 else (x[0], x[1], 0)) for v, x in scope.items()}
+        scope = {v: (x[0], x[1], 0, x[1]) for v, x in scope.items()}
 
         # aliases of places
         def alias(m):
             v, base, befores = m.group(1), m.group(2), m.group(3).count("before")
             if base in scope:
-                w, place, far = scope[base]
-                scope[v] = (w, self.up(place, befores), far + befores)
+                w, place, far, root = scope[base]
+                scope[v] = (w, self.up(place, befores), far + befores, root)
                 return ""
             return m.group(0)
 
@@ -151,12 +152,45 @@ class Function:
                 break
             text = new
 
+        # names for what an arm binds
+        while True:
+            m = re.search(r"let (\w+'?) = (\w+'?(?:\.[\w-]+)*\.given(?:\.[01])*) in\s*", text)
+            if not m or m.group(2).split(".")[0] not in scope:
+                break
+            rest = text[m.end() :]
+            rest = re.sub(r"(?<![^\s(){}\[\];,])%s(?=[\s.(){}\[\];,]|$)" % re.escape(m.group(1)), m.group(2), rest)
+            text = text[: m.start()] + rest
+
+        # a lemma at a place, given that place: as far up as that place is from here
+        def given_place(m):
+            lemma, arg = m.group(1), m.group(2)
+            base = arg.split(".")[0]
+            if base not in scope:
+                return m.group(0)
+            w, place, far, root = scope[base]
+            here = self.goal_place if goal else root
+            up = 0
+            for p in self.chain(here):
+                if p == self.lemma_places[lemma]:
+                    view = goal and self.exported.get(self.new_place.get(here)) == "View"
+                    return f"{lemma} \0{w}" + ".before" * (up + bool(view))
+                # an arm's places are one record
+                q = self.places[p][1]
+                arm = self.arms.get(p)
+                if not (arm and q and self.arms.get(q) and arm[1] > 1):
+                    up += 1
+            return m.group(0)
+
+        if self.lemma_places:
+            names = "|".join(re.escape(x) for x in sorted(self.lemma_places, key=len, reverse=True))
+            text = re.sub(r"(?<![^\s(){}\[\];,])(%s) (\w+'?(?:\.before)*)(?![\w.'])" % names, given_place, text)
+
         def path(m):
             whole = m.group(0)
             parts = whole.split(".")
             if parts[0] not in scope:
                 return self.answered.get(whole, whole)
-            var, place, far = scope[parts[0]]
+            var, place, far, root = scope[parts[0]]
             rest = parts[1:]
             n = 0
             while n < len(rest) and rest[n] == "before":
@@ -168,9 +202,10 @@ class Function:
                 return ".".join([var] + ["before"] * (far + n + bool(view)))
             return self.step(var, place, n, rest)
 
-        text = re.sub(r"(?<![^\s(){}\[\];,])[A-Za-z_][\w-]*'?(?:\.[^%s.]+)*" % STOP, path, text)
-        text = re.sub(r"\(?not-true _ (\S+\.true)-raw\)?", lambda m: m.group(1) + close(m.group(0)), text)
-        text = re.sub(r"\(?not-false _ (\S+\.false)-raw\)?", lambda m: m.group(1) + close(m.group(0)), text)
+        text = re.sub(r"(?<![^\s(){}\[\];,])[A-Za-z_][\w-]*'?(?:\.[^%s.]+)*" % STOP, path, text).replace("\0", "")
+        text = re.sub(r"\.(in_default[\w-]*)\.rest\b", r".\1.\1-own.rest", text)
+        text = re.sub(r"\(?not-true \S+ (\S+\.true)-raw\)?", lambda m: m.group(1) + close(m.group(0)), text)
+        text = re.sub(r"\(?not-false \S+ (\S+\.false)-raw\)?", lambda m: m.group(1) + close(m.group(0)), text)
         return text
 
     def place_type(self, pl, more):
@@ -212,7 +247,7 @@ def trailing_record(body, names):
                 out.append(s[last:k].strip())
                 last = k + 1
         out.append(s[last:].strip())
-        return out
+        return [x for x in out if x]
 
     parts = split(inner)
     while len(parts) < len(names):
@@ -291,6 +326,9 @@ def turn(text, fn, module):
         code = [x for x in d if not x.startswith("--")]
         if not code:
             continue
+        m = re.match(r"^(?:abbrev )?(\S+) :\s*\((\w+) : (?:tie|lts)\.([^\s()]+)", code[0])
+        if m and fn.place(m.group(3)):
+            fn.lemma_places[m.group(1)] = fn.place(m.group(3))
         m = re.match(r"^((?:abbrev |pub |unfoldable )*)(\S+) :\s*tie\.Need-(\S+)", code[0])
         if m:
             key = fn.key(m.group(3), m.group(2))
@@ -350,7 +388,7 @@ def turn(text, fn, module):
                     return ".".join([names[parts[0]]] + parts[1:])
                 return m2.group(0)
 
-            body = re.sub(r"(?<![^\s(){}\[\];,])[A-Za-z_][\w₀']*(?:\.[^%s.]+)*" % STOP, sub, body)
+            body = re.sub(r"(?<![^\s(){}\[\];,])(?:«\w+»|[A-Za-z_])[\w₀']*(?:\.[^%s.]+)*" % STOP, sub, body)
             invs.append("\n".join(notes + [f"abbrev pub {nm} : goal.{nm}"] + un + [f"{nm} l = {body}"]))
             continue
         need = re.match(r"tie\.Need-(\S+)", kind)

@@ -19,13 +19,13 @@ unix-seconds-requires : tie.Need-unix-seconds-requires
 unix-seconds-requires c κs = search rules
 
 put-integer-requires : tie.Need-put-integer-requires
-put-integer-requires c κs = room_as (unix_whole _ _ _ c.before.before.if1.false c.unix-seconds.type-inv c.unix-seconds.ensures) c.before.before.before.before.requires.1
+put-integer-requires c κs = room_as (unix_whole _ _ _ c.before.before.if1.false c.unix-seconds.type_inv c.unix-seconds.ensures) c.before.before.before.before.requires.1
 
 same-length-2 : tie.Need-same-length-2
 same-length-2 c = search rules
 
 returns-2 : tie.Need-returns-2
-returns-2 c = laid_as (sym (unix_whole _ _ _ c.before.before.before.before.before.if1.false c.before.before.before.unix-seconds.type-inv c.before.before.before.unix-seconds.ensures)) c.before.before.put-integer.ensures
+returns-2 c = laid_as (sym (unix_whole _ _ _ c.before.before.before.before.before.if1.false c.before.before.before.unix-seconds.type_inv c.before.before.before.unix-seconds.ensures)) c.before.before.put-integer.ensures
 
 pub put-unix-spec : {M : Type 1} → statement M
 put-unix-spec =

@@ -19,7 +19,7 @@ integer-length-requires : tie.Need-integer-length-requires
 integer-length-requires c κs = search rules
 
 returns-2 : tie.Need-returns-2
-returns-2 c = c.integer-length.ensures ∙ sym (ap length (unix_whole _ _ _ c.before.before.if1.false c.before.unix-seconds.type-inv c.before.unix-seconds.ensures))
+returns-2 c = c.integer-length.ensures ∙ sym (ap length (unix_whole _ _ _ c.before.before.if1.false c.before.unix-seconds.type_inv c.before.unix-seconds.ensures))
 
 pub unix-length-spec : {M : Type 1} → statement M
 unix-length-spec =

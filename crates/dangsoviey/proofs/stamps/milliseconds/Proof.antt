@@ -22,7 +22,7 @@ enum-known-r : tie.Need-enum-known-r
 enum-known-r c = search rules
 
 returns : tie.Need-returns
-returns c = milliseconds_next _ _ _ _ c.before.before.before.before.moment-of.ensures.0 _ c.before.before.p.given.1 (to_z-of_z w64 _ (record { sfits = c.since-epoch.type-inv }) ∙ c.since-epoch.ensures)
+returns c = milliseconds_next _ _ _ _ c.before.before.before.before.moment-of.ensures.0 _ c.before.before.p.given.1 (to_z-of_z w64 _ (record { sfits = c.since-epoch.type_inv }) ∙ c.since-epoch.ensures)
 
 returns-2 : tie.Need-returns-2
 returns-2 c = milliseconds_refused _ _ _ _ c.before.before.before.moment-of.ensures.0 _ c.before.r.given.1

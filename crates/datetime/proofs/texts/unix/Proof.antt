@@ -17,7 +17,7 @@ unix-seconds-requires : tie.Need-unix-seconds-requires
 unix-seconds-requires c κs = search rules
 
 returns-2 : tie.Need-returns-2
-returns-2 c = unix_seconds_is _ _ c.before.if1.false (to_z-of_z w64 _ (record { sfits = c.unix-seconds.type-inv }) ∙ c.unix-seconds.ensures)
+returns-2 c = unix_seconds_is _ _ c.before.if1.false (to_z-of_z w64 _ (record { sfits = c.unix-seconds.type_inv }) ∙ c.unix-seconds.ensures)
 
 pub unix-spec : {M : Type 1} → statement M
 unix-spec = tie.close (tie.spec unix-real-requires returns unix-seconds-requires returns-2)

@@ -23,7 +23,7 @@ unit-ms-requires c κs = search rules
 
 -- the milliseconds as they are handed on
 passed : (c : tie.After-unit-ms) → let a = c.before.before.before.args in to_z w64 (of_z w64 c.unit_ms_lem.result) ≡ unit_ms a.unit a.n
-passed c = to_z-of_z w64 _ (record { sfits = c.unit_ms_lem.type-inv }) ∙ c.unit_ms_lem.ensures
+passed c = to_z-of_z w64 _ (record { sfits = c.unit_ms_lem.type_inv }) ∙ c.unit_ms_lem.ensures
 
 by-length-requires : tie.Need-by-length-requires
 by-length-requires c κs = (c.before.before.before.requires.1, subst (λ z. nat_abs z ≤ step_most) (sym (passed c)) (c.before.before.before.requires.0 (sym c.before.before.below.ensures ∙ not-false _ c.before.if1.false)))

@@ -1,0 +1,14 @@
+-- `decimal::nearest::zeros` meets its contract. Assumes nothing.
+use native.Mathlib.Omega.{arith}
+use lib.Count.{count_leading_zeros, leading_le, leading_top}
+use Rattle.decimal.proofs.nearest.Powers.{room}
+use borrow.Author.Rules.{rules}
+use Rattle.decimal.proofs.nearest.zeros.Goals as goal
+
+pub overflow_cast-result : goal.overflow_cast-result
+overflow_cast-result c = omega (arith, leading_le 64 c.args.n)
+
+pub returns : goal.returns
+returns c = let n = c.args.n in
+    let top = leading_top 64 n c.requires c.ranges.n.fits in
+    room n top.0 (count_leading_zeros 64 n) top.2 top.3 top.1

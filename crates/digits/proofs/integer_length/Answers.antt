@@ -1,0 +1,13 @@
+-- `digits::integer_length` meets its contract. Assumes nothing.
+use mathlib.Core.Path.{ap}
+use native.Mathlib.Omega.{arith}
+use lib.ListN.{length}
+use Rattle.digits.proofs.Signs.{minus_text, plain_text}
+use borrow.Author.Rules.{rules}
+use Rattle.digits.proofs.integer_length.Goals as goal
+
+pub returns-then-n-lt0 : goal.returns-then-n-lt0
+returns-then-n-lt0 c = omega (arith, c.number_length.ensures.0, ap length (minus_text c.args.n c.ranges.n _ c.magnitude.ensures c.if-n-lt0.true))
+
+pub returns : goal.returns
+returns c = omega (arith, c.number_length-2.ensures.0, ap length (plain_text c.args.n c.ranges.n _ c.magnitude-2.ensures c.if-n-lt0.false))

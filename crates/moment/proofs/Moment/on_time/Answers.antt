@@ -1,0 +1,7 @@
+-- `moment::Moment::on_time` meets its contract.
+use Rattle.real.proofs.Literals.{thousand}
+use borrow.Author.Rules.{rules}
+use Rattle.moment.proofs.Moment.on_time.Goals as goal
+
+pub returns : goal.returns
+returns c = rw thousand
