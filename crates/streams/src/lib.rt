@@ -5,7 +5,7 @@
 // the contract says which were taken or added. The programs call them with Stdin, Stdout and Stderr.
 #![tactic(auto)]
 
-ghost use Rattle.std.specs.Prelude.{◌≡◌, ◌<◌, ◌≤◌, ◌^◌, IfSome, decimal, length, take};
+ghost use Rattle.std.specs.Prelude.{◌≡◌, ◌<◌, ◌≤◌, IfSome, decimal, length, take};
 ghost use Rattle.std.specs.Io.KnownBytes.{Appends};
 ghost use Rattle.streams.specs.Known.{Reads, Writes};
 ghost use Rattle.streams.specs.Digits.{hex_digit, hex_digits};
@@ -60,10 +60,9 @@ pub fn print_decimal<W: Write>(out: &mut W, n: u64) -> bool
     write_all(out, text.format(n).as_bytes())
 }
 
-// A number's hexadecimal digits, small letters, with zeros before them: `width` in all.
+// The last `width` of a number's hexadecimal digits, small letters, with zeros before them where it has fewer.
 pub fn print_hex<W: Write>(out: &mut W, n: u64, width: usize) -> bool
-    requires room { width ≤ 16 }
-    requires fits { n < 16 ^ width }
+    requires { width ≤ 16 }
     ensures { Writes (W.contents out.old) (W.contents out.new) (hex_digits width n) result }
 {
     let mut text = [0u8; 16];
