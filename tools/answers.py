@@ -91,7 +91,7 @@ class Function:
             k += 1
         return rest
 
-    def step(self, var, place, befores, parts):
+    def step(self, var, place, befores, parts, root=None):
         """The new path of var.before^n.parts at a place."""
         at = self.up(place, befores)
         head = parts[0]
@@ -123,13 +123,20 @@ class Function:
                     rest = [renamed[rest[0]]] + rest[1:]
                 if rest and rest[0] == "ensures" and self.clauses.get(p):
                     rest = ["ensures"] + self.fields(p, rest[1:], self.clauses[p]["fields"])
+                if len(rest) > 1 and rest[0] == "new" and info[3] in self.d["params"]:
+                    names = self.d["params"][info[3]]
+                    k, i = 1, 0
+                    while k < len(rest) and rest[k] == "1":
+                        i, k = i + 1, k + 1
+                    if k < len(rest) and rest[k] == "0" and i < len(names):
+                        rest = ["new", names[i]] + rest[k + 1 :]
                 if best is None and norm(head).startswith(("enumtold", "enumknown", "knowntold", "sharedslice")):
                     self.left.append(f"step {head}.{'.'.join(rest)}")
                 return ".".join([var, info[2][1]] + rest)
         known = {norm(self.places[p][2][0]): self.places[p][2][0] for p in self.chain(place) if self.places[p][2][0]}
         near = difflib.get_close_matches(norm(head), list(known), 1, 0.7)
         if near and near[0] != norm(head):
-            return self.step(var, place, befores, [known[near[0]]] + parts[1:])
+            return self.step(var, place, befores, [known[near[0]]] + parts[1:], root)
         self.left.append("no step " + ".".join([var] + ["before"] * befores + parts))
         return ".".join([var] + ["before"] * befores + parts)
 
@@ -200,7 +207,7 @@ class Function:
                 # a goal at a place that Goals shows by a view has the walk's record below it
                 view = goal and self.exported.get(self.new_place.get(self.goal_place)) == "View"
                 return ".".join([var] + ["before"] * (far + n + bool(view)))
-            return self.step(var, place, n, rest)
+            return self.step(var, place, n, rest, None if goal else root)
 
         text = re.sub(r"(?<![^\s(){}\[\];,])[A-Za-z_][\w-]*'?(?:\.[^%s.]+)*" % STOP, path, text).replace("\0", "")
         text = re.sub(r"\.(in_default[\w-]*)\.rest\b", r".\1.\1-own.rest", text)
@@ -212,10 +219,8 @@ class Function:
         p = self.place(pl)
         if p is None:
             return None
-        if self.arms[p] and self.new_place[p] in self.exported:
-            return "goal." + self.new_place[p]
         self.cited |= {"lts", "tie", "reads"}
-        return f"lts.{p}" + self.given
+        return "lts." + ("Past-" if self.arms[p] else "") + p + self.given
 
 
 def trailing_record(body, names):
@@ -317,11 +322,65 @@ def blocks(text):
     return head, uses, decls
 
 
+def bound(d):
+    """A lemma at a place whose parameter has no name in its type: gives it the name of its clause."""
+    for i, line in enumerate(d):
+        m = re.match(r"^((?:abbrev |pub |unfoldable )*)(\S+) : (tie\.(?!Need-|invariant|decreases)[^\s→]+(?: [\w.-]+)*) → (.*)$", line)
+        if m:
+            clause = next((x for x in d[i + 1 :] if x.startswith(m.group(2) + " ")), None)
+            if clause:
+                c = clause.split()[1]
+                return d[:i] + [f"{m.group(1)}{m.group(2)} : ({c} : {m.group(3)}) → {m.group(4)}"] + d[i + 1 :]
+    return d
+
+
+def spelled_out(decls, fn):
+    """The answers that stand in the call of `tie.spec` itself, as declarations."""
+    out = []
+    for d in decls:
+        code = [x for x in d if not x.startswith("--")]
+        if not code or "statement M" not in code[0] or not any("λ" in x for x in code):
+            continue
+        un = [x for x in code if x.startswith("unfolding")]
+        text = "\n".join(x for x in code if not x.strip().startswith("--"))
+        text = text[text.index("tie.spec") + len("tie.spec") :]
+        text = re.sub(r"\s--[^\n]*", "", text)
+        items, depth, start = [], 0, None
+        i = 0
+        while i < len(text):
+            ch = text[i]
+            if ch == "(":
+                if depth == 0:
+                    start = i
+                depth += 1
+            elif ch == ")":
+                depth -= 1
+                if depth < 0:
+                    break
+                if depth == 0:
+                    items.append(text[start + 1 : i])
+            elif depth == 0 and not ch.isspace():
+                m = re.match(r"[^\s()]+", text[i:])
+                items.append(m.group(0))
+                i += len(m.group(0)) - 1
+            i += 1
+        needs = fn.d["needs"]
+        if len(items) != len(needs):
+            fn.left.append(f"{len(items)} answers for {len(needs)} goals")
+            continue
+        for item, (old, new) in zip(items, needs):
+            m = re.match(r"^λ ([^.]+)\.\s(.*)$", item.strip(), re.S)
+            if m:
+                out.append([f"{old} : tie.Need-{old}"] + un + [f"{old} {m.group(1)} = {m.group(2)}"])
+    return out
+
+
 def turn(text, fn, module):
     head, uses, decls = blocks(text)
     answers, invs = [], []
     dropped = []
     own = {}
+    decls = [bound(d) for d in decls] + spelled_out(decls, fn)
     for d in decls:
         code = [x for x in d if not x.startswith("--")]
         if not code:

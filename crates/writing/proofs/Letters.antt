@@ -142,6 +142,8 @@ pub data Letter (b n : ℕ) (r : Read (List ℕ)) : Type 0 where
 found : (p : Moment) (rs : List (Char × (Moment → Read (List ℕ)))) (ns : List (Char × ℕ)) → Aligned p rs ns → (b : ℕ) → Letter b (most_in ns b) (◌>>=◌ (writer rs b) (λ w. w p))
 unfolding most_in writer
 found p [] [] end b = none refl refl
+found p [] (n ∷ ns) x b = elim x [ ]
+found p (r ∷ rs) [] x b = elim x [ ]
 found p (r ∷ rs) (n ∷ ns) (f then a) b =
     subst (λ (k : ℕ). Letter b (if eqb k b then n.1 else most_in ns b) (◌>>=◌ (if is r.0 b then got r.1 else writer rs b) (λ w. w p))) f.same (go (eqb (code r.0) b) (eqb-true (code r.0) b) (found p rs ns a b))
   where

@@ -1,0 +1,13 @@
+-- `timediff::back_off` meets its contract. The measure says that at most two rounds are made after the first. Assumes nothing.
+use Prim.Native.Nat.{◌+◌, ◌-◌, ◌≤◌}
+use native.Mathlib.Omega.{arith}
+use borrow.Author.Tests.{not-true, not-false}
+use Rattle.timediff.proofs.Rounds.{Begun, Round, month_is, start_at_lem, first_round, movable, countable, again, ends}
+use Rattle.timediff.proofs.Shifts.{ordered}
+use Rattle.timediff.proofs.back_off.Given as goal
+
+abbrev pub invariant-loop-date : goal.invariant-loop-date
+invariant-loop-date l = Begun l.plus l.a l.b l.date l.time l.from l.initial.months × Round l.plus l.a l.b l.initial.months l.months
+
+abbrev pub decreases-loop-date : goal.decreases-loop-date
+decreases-loop-date l = l.months + 2 - l.initial.months
