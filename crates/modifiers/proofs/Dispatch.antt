@@ -119,6 +119,7 @@ module _ (offset : ℤ) (i : ℕ) (s : List ℕ) (p : Moment) where
   in_order other false true v f = final Kind.Start offset i s p _
   in_order other false false true f = refl
   in_order other false false false f = refl
+  in_order (refuse _) t u v f = elim f [ ]
 
   pub by_kind : modifier offset i s p ≡ step_of (kind_of s) offset i s p
   unfolding modifier kind_of leads
@@ -170,6 +171,7 @@ rest_inside s = go (beside kinds s) (leads (ascii "weekday ") s) (leads (ascii "
     go other false true v z a b f = b refl
     go other false false true z a b f = omega arith
     go other false false false z a b f = omega arith
+    go (refuse _) t u v z a b f = elim f [ ]
 
 -- ---- the step of each unit
 pub by_unit : (w : List ℕ) (n : Float) (p : Moment) → ◌>>=◌ (beside units w) (λ f. f n p) ≡ step_by (unit_of w) n p
@@ -179,6 +181,7 @@ by_unit w n p = ap (λ (r : Read (Float → Moment → Read Moment)). ◌>>=◌ 
     go : (r : Read Unit) → Found r → ◌>>=◌ (◌>>=◌ r (λ u. got (step_by u))) (λ f. f n p) ≡ step_by (or_none r) n p
     go (got u) f = refl
     go other f = refl
+    go (refuse _) f = elim f [ ]
 
 -- ---- what is to begin
 
@@ -194,6 +197,7 @@ module _ (s : List ℕ) (p : Moment) where
       go : (r : Read (Moment → Moment)) → Found r → ◌>>=◌ (or_null r) (λ f. provided false (f (day_start p))) ≡ refuse Refusal.Null
       go (got f) k = refl
       go other k = refl
+      go (refuse _) k = elim k [ ]
 
   module _ (h : Stands p ≡ true) where
     pub start_day : word (ascii "day") s ≡ true → start_of s p ≡ got (day_start p)

@@ -1,0 +1,16 @@
+-- `modifiers::counts::by_months` meets its contract. Assumes nothing.
+use Rattle.std.proofs.Common.{sym, ◌∙◌, rules}
+use borrow.Author.Tests.{not-true, not-false}
+use Rattle.modifiers.proofs.Answers.{stepped, refused}
+use Rattle.modifiers.proofs.Forms.{months_out, months_in}
+use borrow.Author.Rules.{rules}
+use Rattle.modifiers.proofs.counts.by_months.Goals as goal
+
+pub returns-then-not-below : goal.returns-then-not-below
+returns-then-not-below c = refused _ _ _ (months_out _ _ _ _ _ (sym c.below.ensures ∙ c.if-not-below.true))
+
+pub by_months-requires : goal.by_months-requires
+by_months-requires c = let h = c.requires.0 (sym c.below.ensures ∙ c.if-not-below.false) in (c.requires.1, h.0, h.1)
+
+pub returns : goal.returns
+returns c = stepped _ (months_in _ _ _ _ _ (sym c.below.ensures ∙ c.if-not-below.false)) c.by_months.ensures
