@@ -127,32 +127,32 @@ fn walked(first: u32) -> Found
 }
 
 // A year as people write it, with a minus before 0.
-fn print_year(out: &mut Stdout, year: u32) {
+fn print_year(stdout: &mut Stdout, year: u32) {
     if year < YEAR_0 {
-        streams::write_all(out, b"-");
-        streams::print_decimal(out, (YEAR_0 - year) as u64);
+        streams::write_all(stdout, b"-");
+        streams::print_decimal(stdout, (YEAR_0 - year) as u64);
     } else {
-        streams::print_decimal(out, (year - YEAR_0) as u64);
+        streams::print_decimal(stdout, (year - YEAR_0) as u64);
     }
 }
 
 // A number after a space.
-fn print_next(out: &mut Stdout, n: u64) {
-    streams::write_all(out, b" ");
-    streams::print_decimal(out, n);
+fn print_next(stdout: &mut Stdout, n: u64) {
+    streams::write_all(stdout, b" ");
+    streams::print_decimal(stdout, n);
 }
 
 fn main(rt: HostRuntime) {
-    let mut out = rt.stdout();
+    let mut stdout = rt.stdout();
     let mut day = 0;
     while day <= LAST {
         let found = walked(day);
         let digests = found.digests;
-        print_year(&mut out, year_of(day));
-        print_next(&mut out, (found.next - day) as u64);
-        print_next(&mut out, digests.a);
-        print_next(&mut out, digests.b);
-        streams::write_all(&mut out, b"\n");
+        print_year(&mut stdout, year_of(day));
+        print_next(&mut stdout, (found.next - day) as u64);
+        print_next(&mut stdout, digests.a);
+        print_next(&mut stdout, digests.b);
+        streams::write_all(&mut stdout, b"\n");
         day = found.next;
     }
 }

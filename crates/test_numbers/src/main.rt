@@ -14,50 +14,50 @@ ghost use Rattle.std.specs.Prelude.{◌≤◌, ◌<◌, length};
 use std::io::{Stdin, Stdout};
 
 fn main(rt: HostRuntime) {
-    let mut input = rt.stdin();
-    let mut out = rt.stdout();
+    let mut stdin = rt.stdin();
+    let mut stdout = rt.stdout();
     let mut block = [0u8; 65536];
     let mut line = [0u8; 512];
-    run(&mut input, &mut out, &mut block, &mut line);
+    run(&mut stdin, &mut stdout, &mut block, &mut line);
 }
 
 // Reads block after block until the input ends, or cannot be read.
-fn run(input: &mut Stdin, out: &mut Stdout, block: &mut [u8], line: &mut [u8]) {
+fn run(stdin: &mut Stdin, stdout: &mut Stdout, block: &mut [u8], line: &mut [u8]) {
     let mut have = 0;
     let mut turns = u64::MAX;
     while turns > 0 {
-        let Some(n) = streams::read(input, block) else {
+        let Some(n) = streams::read(stdin, block) else {
             return;
         };
         if n == 0 {
             return;
         }
-        have = take(out, &block[..n], line, have);
+        have = take(stdout, &block[..n], line, have);
         turns -= 1;
     }
 }
 
 // A block, after the first `have` bytes of a line: how many bytes of a line it leaves.
-fn take(out: &mut Stdout, block: &[u8], line: &mut [u8], have: usize) -> usize
+fn take(stdout: &mut Stdout, block: &[u8], line: &mut [u8], have: usize) -> usize
     requires { have ≤ length line.old }
     ensures { result ≤ length line.new }
 {
     let mut n = have;
     let mut i = 0;
     while i < block.len() {
-        n = feed(out, block[i], line, n);
+        n = feed(stdout, block[i], line, n);
         i += 1;
     }
     n
 }
 
 // One byte: a newline ends the line. Bytes for which a line has no room are dropped.
-fn feed(out: &mut Stdout, b: u8, line: &mut [u8], have: usize) -> usize
+fn feed(stdout: &mut Stdout, b: u8, line: &mut [u8], have: usize) -> usize
     requires { have ≤ length line.old }
     ensures { result ≤ length line.new }
 {
     if b == b'\n' {
-        row(out, &line[..have]);
+        row(stdout, &line[..have]);
         return 0;
     }
     if have < line.len() {
@@ -82,37 +82,37 @@ fn find(s: &[u8], at: usize, b: u8) -> usize
     i
 }
 
-fn row(out: &mut Stdout, line: &[u8]) {
+fn row(stdout: &mut Stdout, line: &[u8]) {
     let tab = find(line, 0, b'\t');
     if tab < line.len() {
         let value = &line[tab + 1..];
         match line[0] {
-            b'd' => decimal_row(out, value),
-            b't' => three(out, bits_of(value)),
-            b'n' => nine(out, bits_of(value)),
-            _ => say(out, b"?"),
+            b'd' => decimal_row(stdout, value),
+            b't' => three(stdout, bits_of(value)),
+            b'n' => nine(stdout, bits_of(value)),
+            _ => say(stdout, b"?"),
         }
     }
-    say(out, b"\n");
+    say(stdout, b"\n");
 }
 
-fn say(out: &mut Stdout, text: &[u8]) {
-    streams::write_all(out, text);
+fn say(stdout: &mut Stdout, text: &[u8]) {
+    streams::write_all(stdout, text);
 }
 
-fn decimal_row(out: &mut Stdout, text: &[u8]) {
+fn decimal_row(stdout: &mut Stdout, text: &[u8]) {
     match decimal::decimal(text) {
-        decimal::Number::NotOne => say(out, b"not"),
-        decimal::Number::Over => say(out, b"over"),
-        decimal::Number::Is(x) => bit_pattern(out, x),
+        decimal::Number::NotOne => say(stdout, b"not"),
+        decimal::Number::Over => say(stdout, b"over"),
+        decimal::Number::Is(x) => bit_pattern(stdout, x),
     }
 }
 
-fn bit_pattern(out: &mut Stdout, x: f64) {
+fn bit_pattern(stdout: &mut Stdout, x: f64) {
     if x == x {
-        streams::print_hex(out, f64::to_bits(x), 16);
+        streams::print_hex(stdout, f64::to_bits(x), 16);
     } else {
-        say(out, b"nan");
+        say(stdout, b"nan");
     }
 }
 
@@ -144,42 +144,42 @@ fn float_of(bits: u64) -> f64 {
     f64::from_bits(bits)
 }
 
-fn three(out: &mut Stdout, bits: u64) {
+fn three(stdout: &mut Stdout, bits: u64) {
     let x = float_of(bits);
     if real::below(x, 9007199254740992.0) {
-        minus(out, bits);
-        fixed(out, real::thousandths(x), 1000);
+        minus(stdout, bits);
+        fixed(stdout, real::thousandths(x), 1000);
     } else {
-        say(out, b"?");
+        say(stdout, b"?");
     }
 }
 
-fn nine(out: &mut Stdout, bits: u64) {
+fn nine(stdout: &mut Stdout, bits: u64) {
     let x = float_of(bits);
     if 1000000.0 <= x {
         if x < 8388608.0 {
-            fixed(out, real::billionths(x), 1000000000);
+            fixed(stdout, real::billionths(x), 1000000000);
             return;
         }
     }
-    say(out, b"?");
+    say(stdout, b"?");
 }
 
-fn minus(out: &mut Stdout, bits: u64) {
+fn minus(stdout: &mut Stdout, bits: u64) {
     if bits >= 9223372036854775808 {
-        say(out, b"-");
+        say(stdout, b"-");
     }
 }
 
 // n / unit as a decimal, with all the places that unit has zeros.
-fn fixed(out: &mut Stdout, n: u64, unit: u64)
+fn fixed(stdout: &mut Stdout, n: u64, unit: u64)
     requires { 0 < unit }
 {
-    streams::print_decimal(out, n / unit);
-    say(out, b".");
+    streams::print_decimal(stdout, n / unit);
+    say(stdout, b".");
     let mut place = unit / 10;
     while place > 0 {
-        streams::print_decimal(out, n / place % 10);
+        streams::print_decimal(stdout, n / place % 10);
         place = place / 10;
     }
 }

@@ -31,15 +31,15 @@ pub struct State {
 }
 
 fn main(rt: HostRuntime) {
-    let mut input = rt.stdin();
-    let mut out = rt.stdout();
+    let mut stdin = rt.stdin();
+    let mut stdout = rt.stdout();
     let mut block = [0u8; 65536];
     let mut line = [0u8; 512];
-    run(&mut input, &mut out, &mut block, &mut line);
+    run(&mut stdin, &mut stdout, &mut block, &mut line);
 }
 
 // Reads block after block until the input ends, or cannot be read.
-fn run(input: &mut Stdin, out: &mut Stdout, block: &mut [u8], line: &mut [u8]) {
+fn run(stdin: &mut Stdin, stdout: &mut Stdout, block: &mut [u8], line: &mut [u8]) {
     let mut s = State {
         have: 0,
         clock: 0,
@@ -47,39 +47,39 @@ fn run(input: &mut Stdin, out: &mut Stdout, block: &mut [u8], line: &mut [u8]) {
     };
     let mut turns = u64::MAX;
     while turns > 0 {
-        let Some(n) = streams::read(input, block) else {
+        let Some(n) = streams::read(stdin, block) else {
             return;
         };
         if n == 0 {
             return;
         }
-        s = take(out, &block[..n], line, s);
+        s = take(stdout, &block[..n], line, s);
         turns -= 1;
     }
 }
 
-fn take(out: &mut Stdout, block: &[u8], line: &mut [u8], s: State) -> State
+fn take(stdout: &mut Stdout, block: &[u8], line: &mut [u8], s: State) -> State
     requires { (s.have ≤ length line.old) × (s.clock ≤ 253402300799999) }
     ensures { (result.have ≤ length line.new) × (result.clock ≤ 253402300799999) }
 {
     let mut t = s;
     let mut i = 0;
     while i < block.len() {
-        t = feed(out, block[i], line, t);
+        t = feed(stdout, block[i], line, t);
         i += 1;
     }
     t
 }
 
 // One byte: a newline ends the line. Bytes for which a line has no room are dropped.
-fn feed(out: &mut Stdout, b: u8, line: &mut [u8], s: State) -> State
+fn feed(stdout: &mut Stdout, b: u8, line: &mut [u8], s: State) -> State
     requires { (s.have ≤ length line.old) × (s.clock ≤ 253402300799999) }
     ensures { (result.have ≤ length line.new) × (result.clock ≤ 253402300799999) }
 {
     let have = s.have;
     if b == b'\n' {
         if s.begun {
-            row(out, &line[..have], s.clock);
+            row(stdout, &line[..have], s.clock);
             return State {
                 have: 0,
                 clock: s.clock,
@@ -128,71 +128,71 @@ fn clock_of(line: &[u8]) -> u64
 }
 
 // A time value and its two answers.
-fn row(out: &mut Stdout, s: &[u8], clock: u64)
+fn row(stdout: &mut Stdout, s: &[u8], clock: u64)
     requires { clock ≤ 253402300799999 }
 {
     if 255 < s.len() {
-        say(out, b"refused 2\trefused 2\n");
+        say(stdout, b"refused 2\trefused 2\n");
         return;
     }
     if !text::is_ascii(s) {
-        say(out, b"refused 3\trefused 3\n");
+        say(stdout, b"refused 3\trefused 3\n");
         return;
     }
     match reading::text_value(s, clock) {
-        Step::Next(p) => in_range(out, p),
-        Step::Refused(r) => refused(out, r),
+        Step::Next(p) => in_range(stdout, p),
+        Step::Refused(r) => refused(stdout, r),
     }
-    say(out, b"\n");
+    say(stdout, b"\n");
 }
 
-fn say(out: &mut Stdout, text: &[u8]) {
-    streams::write_all(out, text);
+fn say(stdout: &mut Stdout, text: &[u8]) {
+    streams::write_all(stdout, text);
 }
 
-fn refused(out: &mut Stdout, r: Refusal) {
+fn refused(stdout: &mut Stdout, r: Refusal) {
     match r {
-        Refusal::Decimal => say(out, b"refused 5\trefused 5"),
-        _ => say(out, b"null\tnull"),
+        Refusal::Decimal => say(stdout, b"refused 5\trefused 5"),
+        _ => say(stdout, b"null\tnull"),
     }
 }
 
-fn in_range(out: &mut Stdout, p: Moment)
+fn in_range(stdout: &mut Stdout, p: Moment)
     requires { Sane (held p) }
 {
     match p.ranged() {
-        Step::Next(q) => answers(out, q.ms, q.subsec),
-        Step::Refused(r) => refused(out, r),
+        Step::Next(q) => answers(stdout, q.ms, q.subsec),
+        Step::Refused(r) => refused(stdout, r),
     }
 }
 
-fn answers(out: &mut Stdout, ms: u64, subsec: bool)
+fn answers(stdout: &mut Stdout, ms: u64, subsec: bool)
     requires { InRange ms }
 {
-    float(out, real::julian_real(ms));
-    say(out, b"\t");
+    float(stdout, real::julian_real(ms));
+    say(stdout, b"\t");
     if subsec {
-        float(out, real::unix_real(ms));
+        float(stdout, real::unix_real(ms));
     } else {
-        seconds(out, ms);
+        seconds(stdout, ms);
     }
 }
 
 // No answer is a NaN.
-fn float(out: &mut Stdout, x: f64) {
+fn float(stdout: &mut Stdout, x: f64) {
     if x == x {
-        streams::print_hex(out, f64::to_bits(x), 16);
+        streams::print_hex(stdout, f64::to_bits(x), 16);
     }
 }
 
 // Seconds from 1970, "rounded by floor, so -500 ms is second -1".
-fn seconds(out: &mut Stdout, ms: u64)
+fn seconds(stdout: &mut Stdout, ms: u64)
     requires { InRange ms }
 {
     if UNIX_EPOCH <= ms {
-        streams::print_decimal(out, (ms - UNIX_EPOCH) / 1000);
+        streams::print_decimal(stdout, (ms - UNIX_EPOCH) / 1000);
     } else {
-        say(out, b"-");
-        streams::print_decimal(out, (UNIX_EPOCH - ms + 999) / 1000);
+        say(stdout, b"-");
+        streams::print_decimal(stdout, (UNIX_EPOCH - ms + 999) / 1000);
     }
 }
