@@ -59,8 +59,15 @@ class Function:
     def place(self, name):
         for p in self.order:
             if norm(p) == norm(name):
-                return p
+                return self.whole_arm(p)
         return None
+
+    def whole_arm(self, place):
+        """The last of an arm's places, which has all that the arm knows."""
+        for p in self.order:
+            if self.places[p][1] == place and self.arms[p] and self.arms[place] and self.arms[p][1] == self.arms[place][1] + 1 and self.arms[p][0] == self.arms[place][0]:
+                return self.whole_arm(p)
+        return place
 
     def up(self, place, n):
         for _ in range(n):
@@ -203,6 +210,7 @@ class Function:
             while n < len(rest) and rest[n] == "before":
                 n += 1
             rest = [SAID.get(x, x) for x in rest[n:]]
+            rest = rest[:1] + [x.replace("-", "_") for x in rest[1:]]
             if not rest:
                 # a goal at a place that Goals shows by a view has the walk's record below it
                 view = goal and self.exported.get(self.new_place.get(self.goal_place)) == "View"

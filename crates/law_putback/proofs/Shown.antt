@@ -10,7 +10,7 @@ use Rattle.rules.specs.Calendar.{time_of_day, civil}
 use Rattle.rules.specs.Floats.{whole, decimals}
 use Rattle.rules.specs.Functions.{renewed, outcome_of}
 use Rattle.rules.specs.Moments.{Moment}
-use Rattle.rules.specs.Writing.{three_decimals, date_text, time_text, unix_text, letters, writer, letter, formatted}
+use Rattle.rules.specs.Writing.{before, three_decimals, date_text, time_text, unix_text, letters, writer, letter, formatted}
 use Rattle.rules.specs.declared.Function.{Function}
 
 -- what a record shows of the instant t, with `subsec` not asked for
@@ -165,7 +165,10 @@ module _ (p q : Moment) (s : Same p q) where
   unfolding formatted
   format_same [] = refl
   format_same (b ∷ []) = refl
-  format_same (b ∷ c ∷ f) = rw (letter_same c, format_same f, format_same (c ∷ f))
+  format_same (b ∷ c ∷ f) = both b _ _ _ _ _ _ (letter_same c) (format_same f) (format_same (c ∷ f))
+    where
+      both : (b : ℕ) (l m x y u v : Read (List ℕ)) → l ≡ m → x ≡ y → u ≡ v → (if is "%" b then before l x else before (got (b ∷ [])) u) ≡ (if is "%" b then before m y else before (got (b ∷ [])) v)
+      both b l m x y u v e g h = rw (e, g, h)
 
   -- ---- date and time
   date_same : date_text p ≡ date_text q

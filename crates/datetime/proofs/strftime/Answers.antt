@@ -1,0 +1,21 @@
+-- `datetime::strftime` meets its contract. Assumes nothing.
+use Prim.Native.Nat.{◌≤◌}
+use lib.ListN.{length}
+use Rattle.rules.specs.Moments.{Moment}
+use Rattle.datetime.specs.Opened.{Ready}
+use Rattle.datetime.proofs.Given.{stated, gives_refusal}
+use Rattle.datetime.proofs.Answers.{landed, filled, strftime_refused, strftime_answer}
+use borrow.Author.Rules.{rules}
+use Rattle.datetime.proofs.strftime.Goals as goal
+
+pub fill-requires : goal.fill-requires
+fill-requires c = (landed Ready _ c.in-Next.is c.moment_for.ensures.lands).after.sane
+
+pub formatted-requires : goal.formatted-requires
+formatted-requires c = (filled (landed Ready _ c.in-Next.is c.moment_for.ensures.lands) c.fill.ensures.is, landed (λ (_ : Moment). length c.args.format.now ≤ 1024) _ c.in-Next.is c.moment_for.ensures.lands_2)
+
+pub returns-in-Next : goal.returns-in-Next
+returns-in-Next c = record { value = (stated (strftime_answer _ _ _ _ _ c.moment_for.ensures.result_value _ c.in-Next.is _ c.fill.ensures.is) c.formatted.ensures).0; out_after = (stated (strftime_answer _ _ _ _ _ c.moment_for.ensures.result_value _ c.in-Next.is _ c.fill.ensures.is) c.formatted.ensures).1 }
+
+pub returns-in-Refused : goal.returns-in-Refused
+returns-in-Refused c = record { value = (stated (strftime_refused _ _ _ _ _ c.moment_for.ensures.result_value _ c.in-Refused.is) (gives_refusal _ _)).0; out_after = (stated (strftime_refused _ _ _ _ _ c.moment_for.ensures.result_value _ c.in-Refused.is) (gives_refusal _ _)).1 }
