@@ -166,11 +166,15 @@ class Function:
                 break
             text = new
 
-        # names for what an arm binds
+        # names for what an arm binds, and for a call's clauses where they have names now
+        seen = 0
         while True:
-            m = re.search(r"let (\w+'?) = (\w+'?(?:\.[\w-]+)*\.given(?:\.[01])*) in\s*", text)
-            if not m or m.group(2).split(".")[0] not in scope:
+            m = re.compile(r"let (\w+'?) = (\w+'?(?:\.[\w-]+)*\.(?:given|ensures|requires)(?:\.[01])*) in\s*").search(text, seen)
+            if not m:
                 break
+            if m.group(2).split(".")[0] not in scope or not self.has_names(m.group(2), scope):
+                seen = m.end()
+                continue
             rest = text[m.end() :]
             rest = re.sub(r"(?<![^\s(){}\[\];,])%s(?=[\s.(){}\[\];,]|$)" % re.escape(m.group(1)), m.group(2), rest)
             text = text[: m.start()] + rest
@@ -222,6 +226,16 @@ class Function:
         text = re.sub(r"\(?not-true \S+ (\S+\.true)-raw\)?", lambda m: m.group(1) + close(m.group(0)), text)
         text = re.sub(r"\(?not-false \S+ (\S+\.false)-raw\)?", lambda m: m.group(1) + close(m.group(0)), text)
         return text
+
+    def has_names(self, whole, scope):
+        parts = whole.split(".")
+        var, place, far, root = scope[parts[0]]
+        rest = [x for x in parts[1:] if x != "before"]
+        if "given" in rest:
+            return True
+        if rest[0] == "requires":
+            return isinstance(self.d.get("pre"), dict)
+        return any(norm(self.places[p][2][0]) == norm(rest[0]) and self.clauses.get(p) for p in self.chain(place))
 
     def place_type(self, pl, more):
         p = self.place(pl)

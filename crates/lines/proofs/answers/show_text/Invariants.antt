@@ -1,0 +1,16 @@
+-- `lines::answers::show_text` meets its contract. The loop's invariant: what is still to be laid completes the text. Assumes nothing.
+use Prim.Native.Nat.{◌-◌, ◌≤◌}
+use mathlib.Core.Path.{◌≡◌, refl, sym, ◌∙◌}
+use native.Mathlib.Omega.{arith}
+use lib.ListN.{length, drop, length-set}
+use lib.Seq.{sets}
+use Rattle.digits.specs.Writers.{Room}
+use Rattle.datetime.proofs.Given.{gives_text, gives_length}
+use Rattle.lines.proofs.Showing.{text_on, text_end}
+use Rattle.lines.proofs.answers.show_text.Given as goal
+
+abbrev pub invariant-loop-i : goal.invariant-loop-i
+invariant-loop-i l = (sets l.initial.out 0 l.s ≡ sets l.out l.i (drop l.i l.s)) × (length l.out ≡ length l.initial.out) × (l.i ≤ length l.s)
+
+abbrev pub decreases-loop-i : goal.decreases-loop-i
+decreases-loop-i l = length l.s - l.i

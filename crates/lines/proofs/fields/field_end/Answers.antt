@@ -1,0 +1,23 @@
+-- `lines::fields::field_end` meets its contract. The loop's invariant: the field ends where what is left of it ends. Assumes nothing.
+use Prim.Native.Nat.{◌-◌}
+use mathlib.Core.Bool.{not}
+use mathlib.Core.Path.{◌≡◌, refl, ap, ◌∙◌}
+use lib.ListN.{length}
+use borrow.Author.Tests.{eq-eqb, ne_eqb}
+use Rattle.text.proofs.Runs.{end_on, end_stop, end_past, passed}
+use Rattle.text.specs.Places.{end_at}
+use Rattle.lines.specs.Fields.{in_field}
+use borrow.Author.Rules.{rules}
+use Rattle.lines.proofs.fields.field_end.Goals as goal
+
+pub loop-i-init : goal.loop-i-init
+loop-i-init c = refl
+
+pub returns-then-s-i-eq-TAB : goal.returns-then-s-i-eq-TAB
+returns-then-s-i-eq-TAB c = passed _ _ _ _ (c.loop-i.invariant ∙ end_stop _ _ _ c.loop-i-test.true (ap not (eq-eqb _ 9 c.if-s-i-eq-TAB.true)))
+
+pub loop-i-preserved : goal.loop-i-preserved
+loop-i-preserved c = c.loop-i.invariant ∙ end_on _ _ _ c.loop-i-test.true (ap not (ne_eqb _ 9 c.if-s-i-eq-TAB.false))
+
+pub returns : goal.returns
+returns c = passed _ _ _ _ (c.loop-i.invariant ∙ end_past _ _ _ c.loop-i-test.false)

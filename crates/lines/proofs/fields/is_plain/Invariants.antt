@@ -1,0 +1,16 @@
+-- `lines::fields::is_plain` meets its contract. The loop's invariant: the answer is that of the bytes from here on. Assumes nothing.
+use Prim.Native.Nat.{◌-◌}
+use mathlib.Core.Bool.{not}
+use mathlib.Core.Path.{◌≡◌, refl, sym, ap, ◌∙◌}
+use lib.Dec.{eqb}
+use lib.ListN.{length, drop}
+use borrow.Author.Tests.{le-leb, lt-leb, eq-eqb, ne_eqb}
+use Rattle.rules.specs.Basics.{every}
+use Rattle.text.proofs.Runs.{every_on, every_stop, every_past}
+use Rattle.lines.proofs.fields.is_plain.Given as goal
+
+abbrev pub invariant-loop-i : goal.invariant-loop-i
+invariant-loop-i l = every (λ b. not (eqb b 0)) l.s ≡ every (λ b. not (eqb b 0)) (drop l.i l.s)
+
+abbrev pub decreases-loop-i : goal.decreases-loop-i
+decreases-loop-i l = length l.s - l.i
