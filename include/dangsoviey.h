@@ -1,6 +1,6 @@
 /* Dangsoviey: SQLite's date and time functions, each proved to give exactly the answer that the rules define, on all inputs.
  *
- * Link with target/staticlib/libdangsoviey.a (`rt staticlib dangsoviey` writes it; x86-64 Linux). C99 and C++.
+ * Link with target/staticlib/libdangsoviey.a (`tools/build dangsoviey` writes it; x86-64 Linux). C99 and C++.
  *
  * Rules of use
  * - Nothing is kept, nothing is allocated, there is no state: every function may be called from any thread at any time.
@@ -13,9 +13,9 @@
  *
  * What is promised of every call, in the words of crates/rules/specs:
  *     A   = answer { clock, offset } call          the outcome: a text, an integer, an f64, or a refusal
- *     the reply is replyOf (answered A room)       room is the length of out, and 0 where no buffer is lent
+ *     the reply is reply_of (answered A room)       room is the length of out, and 0 where no buffer is lent
  *     out then holds after A (what out held)
- * The line "call: .." of each function below says which call. replyOf and the given numbers stand in crates/dangsoviey/specs.
+ * The line "call: .." of each function below says which call. reply_of and the given numbers stand in crates/dangsoviey/specs.
  */
 #ifndef DANGSOVIEY_H
 #define DANGSOVIEY_H
@@ -82,40 +82,40 @@ typedef struct dangsoviey_reply {
  */
 
 /* YYYY-MM-DD, with a minus before a year below 0.
- * call: call Date (valueOf (givenOf given integer real) value) modifiers */
+ * call: call Date (value_of (given_of given integer real) value) modifiers */
 dangsoviey_reply dangsoviey_date(uint64_t clock, int64_t offset,
     uint32_t given, int64_t integer, double real, const unsigned char *value, size_t value_length,
     const unsigned char *modifiers, size_t modifiers_length,
     unsigned char *out, size_t out_length);
 
 /* HH:MM:SS, and three decimals with subsec, as a modifier or as the time value.
- * call: call Time (valueOf (givenOf given integer real) value) modifiers */
+ * call: call Time (value_of (given_of given integer real) value) modifiers */
 dangsoviey_reply dangsoviey_time(uint64_t clock, int64_t offset,
     uint32_t given, int64_t integer, double real, const unsigned char *value, size_t value_length,
     const unsigned char *modifiers, size_t modifiers_length,
     unsigned char *out, size_t out_length);
 
 /* The date, a space and the time.
- * call: call Datetime (valueOf (givenOf given integer real) value) modifiers */
+ * call: call Datetime (value_of (given_of given integer real) value) modifiers */
 dangsoviey_reply dangsoviey_datetime(uint64_t clock, int64_t offset,
     uint32_t given, int64_t integer, double real, const unsigned char *value, size_t value_length,
     const unsigned char *modifiers, size_t modifiers_length,
     unsigned char *out, size_t out_length);
 
 /* The Julian day, an f64.
- * call: call Julianday (valueOf (givenOf given integer real) value) modifiers */
+ * call: call Julianday (value_of (given_of given integer real) value) modifiers */
 dangsoviey_reply dangsoviey_julianday(uint64_t clock, int64_t offset,
     uint32_t given, int64_t integer, double real, const unsigned char *value, size_t value_length,
     const unsigned char *modifiers, size_t modifiers_length);
 
 /* Seconds since 1970-01-01 UTC: an integer, rounded down; with subsec, as a modifier or as the time value, an f64.
- * call: call Unixepoch (valueOf (givenOf given integer real) value) modifiers */
+ * call: call Unixepoch (value_of (given_of given integer real) value) modifiers */
 dangsoviey_reply dangsoviey_unixepoch(uint64_t clock, int64_t offset,
     uint32_t given, int64_t integer, double real, const unsigned char *value, size_t value_length,
     const unsigned char *modifiers, size_t modifiers_length);
 
 /* What a format says: % and one of d e F f g G H I j J k l m M p P R s S T u U V w W Y %.
- * call: strftime format (valueOf (givenOf given integer real) value) modifiers */
+ * call: strftime format (value_of (given_of given integer real) value) modifiers */
 dangsoviey_reply dangsoviey_strftime(uint64_t clock, int64_t offset,
     const unsigned char *format, size_t format_length,
     uint32_t given, int64_t integer, double real, const unsigned char *value, size_t value_length,
@@ -123,7 +123,7 @@ dangsoviey_reply dangsoviey_strftime(uint64_t clock, int64_t offset,
     unsigned char *out, size_t out_length);
 
 /* How far, and which way, b is moved to reach a: (+|-)YYYY-MM-DD HH:MM:SS.SSS.
- * call: timediff (valueOf (givenOf given_a integer_a real_a) a) (valueOf (givenOf given_b integer_b real_b) b) */
+ * call: timediff (value_of (given_of given_a integer_a real_a) a) (value_of (given_of given_b integer_b real_b) b) */
 dangsoviey_reply dangsoviey_timediff(uint64_t clock, int64_t offset,
     uint32_t given_a, int64_t integer_a, double real_a, const unsigned char *a, size_t a_length,
     uint32_t given_b, int64_t integer_b, double real_b, const unsigned char *b, size_t b_length,
@@ -132,14 +132,14 @@ dangsoviey_reply dangsoviey_timediff(uint64_t clock, int64_t offset,
 /* ---- For loggers: whole milliseconds from 1970-01-01 UTC, exact. Their definitions stand in crates/dangsoviey/specs. */
 
 /* The moment that a call is about, an integer.
- * the reply is replyOf (answered (milliseconds { clock, offset } (valueOf (givenOf given integer real) value) modifiers) 0) */
+ * the reply is reply_of (answered (milliseconds { clock, offset } (value_of (given_of given integer real) value) modifiers) 0) */
 dangsoviey_reply dangsoviey_milliseconds(uint64_t clock, int64_t offset,
     uint32_t given, int64_t integer, double real, const unsigned char *value, size_t value_length,
     const unsigned char *modifiers, size_t modifiers_length);
 
 /* YYYY-MM-DD HH:MM:SS.SSS; refusal 1 below -210866760000000 and above 253402300799999. From the year 0 on, dangsoviey_milliseconds of the
  * text is ms again.
- * the reply is replyOf (answered (stamp ms) out_length), and out then holds after (stamp ms) (what out held) */
+ * the reply is reply_of (answered (stamp ms) out_length), and out then holds after (stamp ms) (what out held) */
 dangsoviey_reply dangsoviey_stamp(int64_t ms, unsigned char *out, size_t out_length);
 
 /* ---- The same, shorter.

@@ -7,8 +7,9 @@ use std::{env, process};
 const VARIABLE: &str = "DANGSOVIEY_LIB";
 /// From this folder.
 const ROOT: &str = "../..";
-/// From the root; `rt staticlib` writes it.
+/// From the root; `BUILD` writes it.
 const ARCHIVE: &str = "target/staticlib/libdangsoviey.a";
+const BUILD: &str = "tools/build";
 
 fn main() {
     println!("cargo:rerun-if-env-changed={VARIABLE}");
@@ -37,12 +38,12 @@ fn own() -> PathBuf {
     let archive = root.join(ARCHIVE);
     if !archive.is_file() {
         let built =
-            Command::new("rt").args(["staticlib", "dangsoviey"]).current_dir(&root).status();
+            Command::new(root.join(BUILD)).arg("dangsoviey").current_dir(&root).status();
         match built {
             Ok(status) if status.success() => {}
-            Ok(status) => stop(format!("`rt staticlib dangsoviey` failed: {status}")),
+            Ok(status) => stop(format!("`{BUILD} dangsoviey` failed: {status}")),
             Err(e) => stop(format!(
-                "{} is not there, {VARIABLE} names no other, and rt does not run: {e}",
+                "{} is not there, {VARIABLE} names no other, and {BUILD} does not run: {e}",
                 archive.display()
             )),
         }

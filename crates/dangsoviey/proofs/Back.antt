@@ -12,7 +12,7 @@ use lib.ListN.{length}
 use lib.Signed.{◌≤ℤ◌}
 use Rattle.rules.specs.Basics.{ascii, every}
 use Rattle.rules.specs.Calendar.{year, unix_epoch, last, days_to, Exists, day_of, time_of_day, civil}
-use Rattle.rules.specs.Calls.{bytes, text, integer, modifiers, last_ended, modifiers_bad, bad_shape, high, bad_bytes, bad_setting}
+use Rattle.rules.specs.Calls.{bytes, text, integer, bad_shape, bad_bytes, bad_setting}
 use Rattle.rules.specs.Decimal.{value}
 use Rattle.rules.specs.Moments.{Moment, blank, counted, set_utc, set_subsec, on_date, on_time, fill_time, fill}
 use Rattle.rules.specs.Writing.{places, signed_year, three_decimals, since_epoch, date_text, time_text}

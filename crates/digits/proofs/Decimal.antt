@@ -12,7 +12,7 @@ use lib.ListN.{length}
 use lib.Pow.{pow-add}
 use Rattle.rules.specs.Basics.{if◌then◌else◌}
 use Rattle.rules.specs.Writing.{places, width, wide}
-use Rattle.digits.proofs.Columns.{column, length_column, column_split, column_last, column_low}
+use Rattle.digits.proofs.Columns.{column, length_column, column_split, column_low}
 
 abbrev pub digit : ℕ → ℕ
 digit d = 48 + d

@@ -1,7 +1,7 @@
 -- The texts of f64: seconds with three decimals. Assumes nothing.
 use Prim.Native.Nat.{ℕ, ◌/◌, ◌≤◌, ◌<◌}
-use mathlib.Core.Path.{◌≡◌, refl, sym, ap, ◌∙◌}
-use mathlib.Core.List.{List, [], ◌∷◌, ◌++◌, append_assoc}
+use mathlib.Core.Path.{◌≡◌}
+use mathlib.Core.List.{[], ◌∷◌, ◌++◌, append_assoc}
 use lib.Ieee.{Float}
 use Rattle.rules.specs.Calendar.{unix_epoch}
 use Rattle.rules.specs.Floats.{decimals}

@@ -1,5 +1,5 @@
 -- How long the texts of numbers are. Assumes nothing.
-use Prim.Native.Nat.{ℕ, suc, ◌+◌, ◌-◌, ◌*◌, ◌/◌, ◌%◌, ◌^◌, ◌≤◌, ◌<◌}
+use Prim.Native.Nat.{ℕ, suc, ◌-◌, ◌/◌, ◌%◌, ◌^◌, ◌≤◌, ◌<◌}
 use mathlib.Core.Bool.{Bool, true, false}
 use mathlib.Core.Path.{◌≡◌, refl, ap, ◌∙◌}
 use mathlib.Core.List.{List, [], ◌∷◌, ◌++◌}
@@ -14,7 +14,7 @@ use Rattle.rules.specs.Floats.{decimals}
 use Rattle.rules.specs.Writing.{places, wide, spaced, integer_text, signed_year, year_short, three_decimals, floor_div, unix_seconds, unix_real, julian_real, julian_text}
 use Rattle.real.specs.InMinute.{in_minute}
 use Rattle.real.proofs.Epoch.{unix_thousandths, julian_billionths}
-use Rattle.real.proofs.Seconds.{minute_thousandths, minute_whole}
+use Rattle.real.proofs.Seconds.{minute_thousandths}
 use Rattle.real.proofs.Signs.{minus_pos, minus_neg}
 use Rattle.digits.specs.Writers.{unix_decimals}
 use Rattle.digits.proofs.Decimal.{length_places, length_exact, length_most}

@@ -1,14 +1,14 @@
 -- Bytes dropped at a text's end, and the Julian day's text. Assumes nothing.
-use Prim.Native.Nat.{ℕ, zero, suc, ◌+◌, ◌-◌, ◌/◌, ◌%◌, ◌^◌, ◌≤◌, ◌<◌}
+use Prim.Native.Nat.{ℕ, zero, suc, ◌+◌, ◌-◌, ◌/◌, ◌%◌, ◌<◌}
 use mathlib.Core.Bool.{Bool, true, false, ◌&&◌}
 use mathlib.Core.Path.{◌≡◌, refl, sym, ap, ◌∙◌}
 use mathlib.Core.List.{List, [], ◌∷◌, ◌++◌, append_assoc}
 use native.Mathlib.Omega.{arith}
 use borrow.Author.Tests.{eq-eqb, ne_eqb}
 use lib.ListN.{length}
-use Rattle.rules.specs.Basics.{if◌then◌else◌, is, every, trim_end}
+use Rattle.rules.specs.Basics.{is, every, trim_end}
 use Rattle.rules.specs.Floats.{decimals}
-use Rattle.rules.specs.Writing.{places, wide, width, julian_real, julian_text}
+use Rattle.rules.specs.Writing.{places, wide, julian_real, julian_text}
 use Rattle.digits.proofs.Columns.{column_last}
 use Rattle.digits.proofs.Decimal.{digit, places_are, wide_length, length_wide}
 

@@ -11,12 +11,12 @@ use lib.Dec.{eqb, leb}
 use lib.IntN.{ℤ, pos, neg_ℤ}
 use lib.Ieee.{Float, binary64, of_int, eq}
 use Rattle.rules.specs.Floats.{number, whole, within, below}
-use Rattle.rules.specs.Basics.{if◌then◌else◌, ascii, is, word, beside, past, only_if, byte, digits, ended, skip, trim, Read, got, other, refuse, ◌or◌, ◌>>=◌}
+use Rattle.rules.specs.Basics.{if◌then◌else◌, ascii, is, word, beside, past, only_if, byte, digits, skip, trim, Read, got, other, refuse, ◌or◌, ◌>>=◌}
 use Rattle.rules.specs.Calendar.{year, minus_year, instant, last, day_length, half_day, leap, month_lengths, sum, years, before_month, day_of_year, days_to, day_zero, start, midnight, time_of_day, in_range, civil}
 use Rattle.rules.specs.Calls.{Value, absent, null, bytes, signed, float}
 use Rattle.rules.specs.Decimal.{decimal}
-use Rattle.rules.specs.Moments.{Moment, no_zone, blank, failure, counted, set_ms, set_date, set_dated, set_utc, clear, time_ms, with_time, sum_of, count_ms, on_date, fill_date, past_end}
-use Rattle.rules.specs.Reading.{space, time, timed, time_after, settled, date_from, date_form, time_form, now, is_julian, raw_number, number_form, text_value, time_value}
+use Rattle.rules.specs.Moments.{Moment, no_zone, failure, counted, set_ms, set_date, set_dated, set_utc, clear, time_ms, with_time, sum_of, count_ms, on_date, fill_date, past_end}
+use Rattle.rules.specs.Reading.{space, time, timed, time_after, settled, date_from, date_form, time_form, is_julian, raw_number, number_form, text_value, time_value}
 use Rattle.rules.specs.Modifiers.{provided, or_null, first, words, starts, units, is_auto, auto, from_epoch, is_unix, unix, ceiling, floor, localtime, utc, to_weekday, weekday, day_start, start_of, by_date, date_step, time_step, time_of, by_length, by_months, unit_step, arithmetic, modifier, counts, wide_space}
 use Rattle.rules.specs.declared.Time.{Time}
 use Rattle.rules.specs.declared.Refusal.{Refusal}

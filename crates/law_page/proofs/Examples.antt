@@ -1,5 +1,5 @@
 -- Section 4, under every clock. Assumes nothing.
-use Prim.Native.Nat.{ℕ, suc, ◌+◌, ◌-◌, ◌*◌, ◌/◌, ◌%◌, ◌≤◌}
+use Prim.Native.Nat.{ℕ, suc, ◌+◌, ◌-◌, ◌*◌, ◌/◌, ◌≤◌}
 use mathlib.Core.Bool.{Bool, true, false, ◌||◌}
 use mathlib.Core.Path.{◌≡◌, refl, sym, ap, ◌∙◌, subst}
 use mathlib.Core.List.{List, [], ◌∷◌}
@@ -22,7 +22,7 @@ use Rattle.rules.specs.declared.Ymd.{Ymd}
 use Rattle.calendar.specs.Ranges.{InRange}
 use Rattle.calendar.proofs.Counting.{DateOf, month_day}
 use Rattle.calendar.proofs.Instants.{start_is, date_of_lem}
-use Rattle.calendar.proofs.Years.{month_low, month_high, closed}
+use Rattle.calendar.proofs.Years.{month_low, closed}
 use Rattle.calendar.proofs.Months.{first, first_next, of_date, of_length}
 use Rattle.real.proofs.Signs.{minus_pos}
 use Rattle.law_putback.proofs.Years.{in_range_lem}

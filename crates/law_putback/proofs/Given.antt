@@ -2,7 +2,7 @@
 use Prim.Native.Nat.{ℕ, ◌+◌}
 use mathlib.Core.Path.{◌≡◌, refl, subst}
 use native.Mathlib.Omega.{arith}
-use Rattle.rules.specs.Calendar.{year, midnight}
+use Rattle.rules.specs.Calendar.{midnight}
 use Rattle.rules.specs.Moments.{Moment, time_ms}
 use Rattle.rules.specs.Reading.{time_value}
 use Rattle.rules.specs.declared.Setting.{Setting}

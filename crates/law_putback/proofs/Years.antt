@@ -3,7 +3,7 @@ use Prim.Native.Nat.{ℕ, suc, ◌+◌, ◌-◌, ◌*◌, ◌/◌, ◌≤◌, �
 use mathlib.Core.Bool.{Bool, true, false}
 use mathlib.Core.Path.{◌≡◌}
 use native.Mathlib.Omega.{arith}
-use Rattle.rules.specs.Calendar.{year, years, day_length, days_to, midnight, time_of_day, civil}
+use Rattle.rules.specs.Calendar.{year, day_length, days_to, midnight, time_of_day, civil}
 use Rattle.rules.specs.Writing.{in_month}
 use Rattle.calendar.specs.Ranges.{MonthDay, InRange}
 use Rattle.calendar.proofs.Counting.{month_day}

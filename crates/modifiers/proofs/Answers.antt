@@ -1,5 +1,5 @@
 -- What a step hands back, as what one modifier hands back. Assumes nothing.
-use Rattle.std.proofs.Common.{◌≡◌, ℕ, zero, suc, ◌+◌, ◌*◌, ◌/◌, ◌^◌, ◌<◌, ◌≤◌, Bool, true, false, ◌&&◌, List, sym, refl, ap, ◌∙◌, div-lt_iff_lt-mul, arith, ltb-true}
+use Rattle.std.proofs.Common.{◌≡◌, ℕ, zero, suc, ◌+◌, ◌*◌, ◌<◌, ◌≤◌, Bool, true, false, ◌&&◌, List, sym, refl, ap, ◌∙◌, div-lt_iff_lt-mul, arith, ltb-true}
 use lib.Ieee.{Float, nan, inf, fin, up, down, lt, eq, of_int, round, to_unsigned}
 use lib.Ieee.Fits.{down_pos}
 use Rattle.rules.specs.Basics.{Read, got, other, refuse, trim}

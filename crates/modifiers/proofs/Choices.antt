@@ -1,5 +1,5 @@
 -- The branch that a test picks. Assumes nothing.
-use Rattle.std.proofs.Common.{◌≡◌, Bool, true, false, ◌&&◌, ◌||◌, refl}
+use Rattle.std.proofs.Common.{◌≡◌, Bool, true, false, ◌&&◌, ◌||◌}
 use Rattle.rules.specs.Basics.{if◌then◌else◌}
 
 module _ {A : Type 0} {t : Bool} {x : A} where

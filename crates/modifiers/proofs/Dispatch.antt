@@ -2,11 +2,11 @@
 use Rattle.std.proofs.Common.{◌≡◌, ℕ, zero, suc, ◌≤◌, Bool, true, false, ◌&&◌, ◌||◌, eqb, List, [], ◌∷◌, length, drop, ℤ, sym, refl, ap, ◌∙◌, true≢false, arith, eqb-true}
 use native.Mathlib.Decide.{dec_le}
 use lib.Ieee.{Float, eq}
-use Rattle.rules.specs.Basics.{if◌then◌else◌, every, ascii, word, beside, past, only_if, trim, Read, got, other, refuse, ◌or◌, ◌>>=◌}
+use Rattle.rules.specs.Basics.{if◌then◌else◌, every, ascii, word, beside, only_if, trim, Read, got, other, refuse, ◌or◌, ◌>>=◌}
 use Rattle.rules.specs.Decimal.{decimal}
 use Rattle.rules.specs.Floats.{number, whole, within}
 use Rattle.rules.specs.Moments.{Moment, set_subsec}
-use Rattle.rules.specs.Modifiers.{provided, or_null, first, words, starts, units, counts, wide_space, auto, julian, from_epoch, is_unix, unix, ceiling, floor, localtime, utc, weekday, day_start, start_of, arithmetic, modifier, by_length, by_months}
+use Rattle.rules.specs.Modifiers.{provided, or_null, first, words, starts, units, counts, wide_space, auto, julian, from_epoch, is_unix, unix, ceiling, floor, localtime, utc, weekday, day_start, start_of, arithmetic, modifier}
 use Rattle.rules.specs.declared.Refusal.{Refusal}
 use Rattle.text.specs.Places.{leads}
 use Rattle.text.proofs.Tests.{and_left, and_right}

@@ -1,5 +1,5 @@
 -- The buffer, byte by byte: what refuses it, and its modifiers one after another. Assumes nothing.
-use Rattle.std.proofs.Common.{◌≡◌, ℕ, zero, suc, ◌+◌, ◌<◌, ◌≤◌, Bool, true, false, not, ◌&&◌, ◌||◌, eqb, ltb, leb, ◌≢◌, List, [], ◌∷◌, length, get_or, drop, sym, refl, ap, ◌∙◌, zero-add, add-one, arith, length-drop, drop_of_length-le, drop-cons, drop-drop, ltb-false, le-ltb, lt-ltb, eq-eqb, ne_eqb, eqb-true, le-leb}
+use Rattle.std.proofs.Common.{◌≡◌, ℕ, suc, ◌+◌, ◌<◌, ◌≤◌, Bool, true, false, not, ◌&&◌, ◌||◌, eqb, ltb, ◌≢◌, List, [], ◌∷◌, length, get_or, drop, sym, refl, ap, ◌∙◌, zero-add, add-one, arith, length-drop, drop_of_length-le, drop-cons, drop-drop, ltb-false, le-ltb, lt-ltb, eq-eqb, ne_eqb, eqb-true, le-leb}
 use borrow.Author.Tests.{lt-leb, eqb-false, not-true}
 use Rattle.rules.specs.Basics.{if◌then◌else◌, every, on_first, front, skip}
 use Rattle.rules.specs.Calls.{modifiers, last_ended, over, modifiers_bad, high}

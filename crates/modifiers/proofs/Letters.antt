@@ -1,10 +1,10 @@
 -- What a modifier is, by its first letter: the tables' other words begin with another one. Assumes nothing.
-use Rattle.std.proofs.Common.{◌≡◌, ℕ, ◌+◌, ◌<◌, ◌≤◌, Bool, true, false, ◌&&◌, ◌||◌, eqb, leb, ◌≢◌, List, [], ◌∷◌, length, get_or, sym, refl, ◌∙◌, arith, ne_eqb, leb-true}
+use Rattle.std.proofs.Common.{◌≡◌, ℕ, ◌+◌, ◌≤◌, Bool, true, false, ◌&&◌, ◌||◌, eqb, leb, ◌≢◌, List, [], ◌∷◌, length, get_or, sym, refl, ◌∙◌, arith, ne_eqb, leb-true}
 use borrow.Author.Tests.{lt-leb}
 use Rattle.rules.specs.Basics.{if◌then◌else◌, ascii, is_digit, lower, word, beside, got, other, ◌or◌, only_if}
 use Rattle.text.specs.Places.{leads}
 use Rattle.text.proofs.Tests.{and_left, and_false}
-use Rattle.modifiers.specs.Words.{kinds, or_unknown, kind_of, kind_s, kind_u, kind_w, sign_or_digit, or_none, unit_of, unit_m}
+use Rattle.modifiers.specs.Words.{or_unknown, kind_of, kind_s, kind_u, kind_w, sign_or_digit, or_none, unit_of, unit_m}
 use Rattle.modifiers.specs.declared.words.Kind.{Kind}
 use Rattle.modifiers.specs.declared.words.Unit.{Unit}
 

@@ -1,13 +1,12 @@
 -- What the date form and the time form do, and that a text which timediff writes does exactly what it says. Assumes nothing.
-use Rattle.std.proofs.Common.{◌≡◌, ℕ, zero, suc, ◌+◌, ◌-◌, ◌*◌, ◌/◌, ◌%◌, ◌^◌, ◌<◌, ◌≤◌, Bool, true, false, ◌&&◌, eqb, List, [], ◌∷◌, ◌++◌, ℤ, pos, negsuc, neg_ℤ, sym, refl, ap, ◌∙◌, append_assoc, arith, ne_eqb}
+use Rattle.std.proofs.Common.{◌≡◌, ℕ, zero, suc, ◌+◌, ◌-◌, ◌*◌, ◌/◌, ◌%◌, ◌^◌, ◌<◌, ◌≤◌, Bool, true, false, List, [], ◌∷◌, ◌++◌, ℤ, pos, neg_ℤ, refl, ap, ◌∙◌, append_assoc, arith, ne_eqb}
 use lib.Ieee.{Float}
 use Rattle.rules.specs.Basics.{if◌then◌else◌, move, ascii, Read, got, other, refuse, ◌or◌, byte, digits_on, digits, every, skip, trim_end, trim, word, beside}
 use Rattle.rules.specs.Calendar.{day_length}
 use Rattle.rules.specs.Decimal.{sign}
 use Rattle.rules.specs.Floats.{cut, below}
 use Rattle.rules.specs.Moments.{Moment, moved, clear, set_counted, count_ms, fill, past_end, shift}
-use Rattle.rules.specs.Modifiers.{provided, wide_space, signed, fraction_ms, by_months, by_date, time_of, date_step, time_step, unit_step, arithmetic, modifier}
-use Rattle.rules.specs.Reading.{space, time}
+use Rattle.rules.specs.Modifiers.{provided, wide_space, signed, fraction_ms, by_months, by_date, time_of, date_step, time_step, arithmetic, modifier}
 use Rattle.rules.specs.Writing.{places, width, wide, shift_text}
 use Rattle.text.proofs.Bytes.{digit_byte, not_space}
 use Rattle.text.proofs.Reading.{or_got, or_other}

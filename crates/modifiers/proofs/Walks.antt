@@ -1,5 +1,5 @@
 -- The walk through the buffer: one modifier after another, none of them further from the millisecond 0 than 64 bits hold. Assumes nothing.
-use Rattle.std.proofs.Common.{◌≡◌, ℕ, suc, ◌+◌, ◌^◌, ◌<◌, ◌≤◌, false, List, [], ◌∷◌, length, drop, ℤ, sym, refl, ap, ◌∙◌, add-one, arith, drop_of_length-le}
+use Rattle.std.proofs.Common.{◌≡◌, ℕ, ◌+◌, ◌≤◌, false, List, length, drop, ℤ, refl, ◌∙◌, add-one, arith, drop_of_length-le}
 use Rattle.rules.specs.Basics.{got, refuse}
 use Rattle.rules.specs.Calls.{modifiers, modifiers_bad}
 use Rattle.rules.specs.Moments.{Moment}

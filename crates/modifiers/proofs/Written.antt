@@ -1,13 +1,13 @@
 -- Numbers and times of day that were written in full read back. Assumes nothing.
-use Rattle.std.proofs.Common.{◌≡◌, ℕ, zero, suc, ◌+◌, ◌-◌, ◌*◌, ◌/◌, ◌%◌, ◌^◌, ◌<◌, ◌≤◌, max, Bool, true, false, ◌&&◌, ltb, List, [], ◌∷◌, ◌++◌, length, sym, refl, ap, ◌∙◌, pow-suc, arith, ltb-false, ltb-true, lt-ltb}
+use Rattle.std.proofs.Common.{◌≡◌, ℕ, zero, suc, ◌+◌, ◌-◌, ◌*◌, ◌/◌, ◌%◌, ◌^◌, ◌<◌, ◌≤◌, max, Bool, true, false, ltb, List, [], ◌∷◌, ◌++◌, refl, ◌∙◌, pow-suc, arith, ltb-false}
 use lib.Ieee.{Float}
-use Rattle.rules.specs.Basics.{if◌then◌else◌, ascii, is_digit, Read, got, ◌>>=◌, byte, digits, skip, ended}
+use Rattle.rules.specs.Basics.{if◌then◌else◌, got, byte, digits, skip}
 use Rattle.rules.specs.Calendar.{day_length}
 use Rattle.rules.specs.Decimal.{run, value}
 use Rattle.rules.specs.Floats.{number, ◌⊕◌}
 use Rattle.rules.specs.Moments.{no_zone, seconds_ms}
 use Rattle.rules.specs.Modifiers.{time_part}
-use Rattle.rules.specs.Reading.{space, fraction_of, fraction_in, fraction, seconds_in, seconds, zone_in, time}
+use Rattle.rules.specs.Reading.{space, fraction_of, fraction, seconds_in, seconds, zone_in, time}
 use Rattle.rules.specs.Writing.{places, width, wide}
 use Rattle.rules.specs.declared.Time.{Time}
 use Rattle.real.proofs.Seconds.{exact_ms}

@@ -8,9 +8,9 @@ use borrow.Author.Tests.{leb-true, not-true, le-leb, lt-leb, lt-ltb, le-ltb}
 use lib.Dec.{leb, ltb}
 use lib.IntN.{ℤ, pos, neg_ℤ, ◌*ℤ◌}
 use Rattle.rules.specs.Basics.{if◌then◌else◌, got, refuse, move}
-use Rattle.rules.specs.Calendar.{year, instant, last, in_range, day_length}
+use Rattle.rules.specs.Calendar.{instant, last, in_range, day_length}
 use Rattle.rules.specs.Functions.{ranged, renewed}
-use Rattle.rules.specs.Moments.{Moment, clear, counted, moved, set_ms, set_date, set_counted, set_dated, set_over, set_raw, set_utc, set_local, count_ms, fill, shift}
+use Rattle.rules.specs.Moments.{Moment, clear, moved, set_ms, set_date, set_counted, set_dated, set_over, set_raw, set_utc, set_local, count_ms, fill, shift}
 use Rattle.rules.specs.Modifiers.{signed, at_ms, from_epoch, is_auto, auto, julian, is_unix, unix, floor, localtime, utc, days_on, to_weekday}
 use Rattle.rules.specs.declared.Refusal.{Refusal}
 use Rattle.real.proofs.Tests.{and_left, and_right}

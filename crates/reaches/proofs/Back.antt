@@ -8,7 +8,7 @@ use borrow.Author.Tests.{leb-true, leb-false, le-leb, lt-leb}
 use lib.Dec.{leb}
 use lib.ListN.{length, take, drop, set, get_or, length-append, take-append-drop}
 use lib.Seq.{length-take-le, drop-append-le, drop-cons, set-append_seam, take-append_seam}
-use Rattle.rules.specs.Basics.{if◌then◌else◌, Read, got, other, refuse, ◌>>=◌}
+use Rattle.rules.specs.Basics.{Read, got, other, refuse, ◌>>=◌}
 use Rattle.rules.specs.Calendar.{instant, last, in_range}
 use Rattle.rules.specs.Calls.{Value, bytes, Call, call, strftime, timediff, Outcome, text, integer, real, refused, bad_shape, bad_bytes, bad_setting, answered, after}
 use Rattle.rules.specs.Functions.{present, ranged, reading, settle, answer}

@@ -6,7 +6,7 @@ use mathlib.Core.List.{List, [], ◌∷◌}
 use native.Mathlib.Omega.{arith}
 use borrow.Author.Tests.{eqb-true}
 use lib.ListN.{length, drop, length-drop}
-use Rattle.rules.specs.Basics.{if◌then◌else◌, got, other, ◌>>=◌, ◌or◌, byte, digits, digits_on, skip}
+use Rattle.rules.specs.Basics.{if◌then◌else◌, got, other, ◌>>=◌, byte, digits, digits_on, skip}
 use Rattle.rules.specs.Calendar.{year, minus_year}
 use Rattle.rules.specs.Moments.{Moment, blank, set_time, set_timed, set_zone, set_utc, set_date, set_dated, past_end}
 use Rattle.rules.specs.Reading.{time, timed, time_after, settled, date_from, date_form, time_form}

@@ -7,7 +7,7 @@ use native.Mathlib.Omega.{arith}
 use lib.Ieee.{Float, of_int, round, le, lt}
 use lib.ListN.{length, drop}
 use lib.Seq.{drop-drop}
-use Rattle.rules.specs.Basics.{if◌then◌else◌, is, is_digit, Read, got, other, ◌>>=◌, digits}
+use Rattle.rules.specs.Basics.{if◌then◌else◌, is, is_digit, got, other, digits}
 use Rattle.rules.specs.Floats.{number, ◌⊕◌}
 use Rattle.rules.specs.Decimal.{run}
 use Rattle.rules.specs.Reading.{fraction_of, fraction_in, fraction, seconds_in, seconds}

@@ -7,8 +7,7 @@ use native.Mathlib.Nat.{pow-suc, one-le-pow, zero-add, zero-mul, mod-lt, mod-eq_
 use native.Mathlib.Omega.{arith}
 use borrow.Author.Tests.{le-leb, leb-true}
 use lib.Dec.{lit≤, leb}
-use lib.ListN.{length}
-use Rattle.rules.specs.Basics.{if◌then◌else◌, is_digit, Read, got, ◌>>=◌, only_if, every, skip, digits_on, digits}
+use Rattle.rules.specs.Basics.{is_digit, got, every, skip, digits_on, digits}
 use Rattle.rules.specs.Decimal.{run}
 use Rattle.rules.specs.Writing.{places}
 

@@ -1,5 +1,5 @@
 -- A date and time written in full reads to its fields, and those to exactly the milliseconds of its counted date. Assumes nothing.
-use Prim.Native.Nat.{ℕ, ◌+◌, ◌-◌, ◌*◌, ◌/◌, ◌%◌, ◌^◌, ◌≤◌, ◌<◌}
+use Prim.Native.Nat.{ℕ, ◌+◌, ◌-◌, ◌*◌, ◌/◌, ◌%◌, ◌≤◌, ◌<◌}
 use mathlib.Core.Bool.{Bool, true, false, true≢false}
 use mathlib.Core.Path.{◌≡◌, refl, sym, ap, ◌∙◌}
 use mathlib.Core.List.{List, [], ◌∷◌, ◌++◌, append_assoc}
@@ -21,7 +21,7 @@ use Rattle.calendar.proofs.Counting.{month_day}
 use Rattle.real.proofs.Run.{Digits}
 use Rattle.real.proofs.Seconds.{fraction_none, exact_ms}
 use Rattle.moment.proofs.Steps.{in_time, summed, zoneless, count_dated}
-use Rattle.reading.specs.Readers.{hour_minute, year_month_day}
+use Rattle.reading.specs.Readers.{year_month_day}
 use Rattle.reading.specs.Written.{Stamp, pointed, written, Full, instant_of, fields_of}
 use Rattle.reading.proofs.Places.{both, Stops, digits_places, skip_run, skip_all, run_digits}
 use Rattle.reading.proofs.Zones.{no_zone_lem, hour_and_minute}

@@ -4,9 +4,8 @@ use mathlib.Core.Bool.{Bool}
 use mathlib.Core.Path.{◌≡◌, ◌∙◌}
 use mathlib.Core.List.{List}
 use lib.Ieee.{Float}
-use Rattle.rules.specs.Basics.{Read, got, other, ◌>>=◌, skip}
+use Rattle.rules.specs.Basics.{got, other, ◌>>=◌, skip}
 use Rattle.rules.specs.Reading.{space, seconds, zone_in, time}
-use Rattle.rules.specs.declared.Time.{Time}
 use Rattle.reading.specs.Readers.{hour_minute}
 use Rattle.reading.proofs.Steps.{then_then}
 

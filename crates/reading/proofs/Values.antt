@@ -4,7 +4,7 @@ use mathlib.Core.Bool.{true, false, ◌||◌}
 use mathlib.Core.Path.{◌≡◌}
 use mathlib.Core.List.{List}
 use lib.Ieee.{Float}
-use Rattle.rules.specs.Basics.{ascii, word, Read, got, other, refuse, ◌>>=◌, ◌or◌, only_if, trim}
+use Rattle.rules.specs.Basics.{ascii, word, got, other, refuse, ◌or◌, trim}
 use Rattle.rules.specs.Decimal.{decimal}
 use Rattle.rules.specs.Moments.{Moment, blank, set_subsec}
 use Rattle.rules.specs.Reading.{space, now, raw_number, date_form, time_form, number_form, text_value}

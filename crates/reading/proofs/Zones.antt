@@ -1,13 +1,13 @@
 -- HH:MM and zones. Assumes nothing.
 use Prim.Native.Nat.{ℕ, ◌+◌, ◌*◌, ◌<◌}
-use mathlib.Core.Bool.{Bool, true, false}
+use mathlib.Core.Bool.{true, false}
 use mathlib.Core.Logic.{◌≢◌}
-use mathlib.Core.Path.{◌≡◌, refl, sym, ap, ◌∙◌}
+use mathlib.Core.Path.{◌≡◌, refl, sym, ◌∙◌}
 use mathlib.Core.List.{List, [], ◌∷◌}
 use native.Mathlib.Omega.{arith}
 use borrow.Author.Tests.{ne_eqb}
 use lib.ListN.{length, drop, length-drop}
-use Rattle.rules.specs.Basics.{Read, got, other, refuse, ◌>>=◌, ◌or◌, only_if, ended, byte, digits, skip}
+use Rattle.rules.specs.Basics.{got, other, ◌>>=◌, ended, byte, digits, skip}
 use Rattle.rules.specs.Moments.{no_zone}
 use Rattle.rules.specs.Reading.{space, hours_minutes, zone_in}
 use Rattle.text.proofs.Digits.{digits_short}

@@ -4,9 +4,9 @@ use Prim.Native.Char.{Char, code}
 use mathlib.Core.Bool.{Bool, true, false, ◌&&◌, ◌||◌}
 use mathlib.Core.Path.{◌≡◌, refl, sym, ◌∙◌}
 use mathlib.Core.List.{List, [], ◌∷◌}
-use borrow.Author.Tests.{eqb-true, ne_eqb}
+use borrow.Author.Tests.{ne_eqb}
 use lib.Dec.{T, eqb, eqb→eq}
-use Rattle.rules.specs.Basics.{if◌then◌else◌, is, Read, got, refuse}
+use Rattle.rules.specs.Basics.{Read, refuse}
 use Rattle.rules.specs.Moments.{Moment}
 use Rattle.rules.specs.Writing.{writer}
 use Rattle.rules.specs.declared.Refusal.{Refusal}

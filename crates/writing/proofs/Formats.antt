@@ -8,7 +8,7 @@ use native.Mathlib.Decide.{ℕ_discrete}
 use borrow.Author.Tests.{eq-eqb, ne_eqb}
 use lib.ListN.{length, get_or, drop, drop_of_length-le}
 use lib.Seq.{drop-cons}
-use Rattle.rules.specs.Basics.{if◌then◌else◌, Read, got, other, refuse, ◌>>=◌}
+use Rattle.rules.specs.Basics.{Read, got, other, refuse}
 use Rattle.rules.specs.Moments.{Moment}
 use Rattle.rules.specs.Writing.{letter, before, formatted}
 use Rattle.rules.specs.declared.Refusal.{Refusal}

@@ -1,7 +1,7 @@
 -- How long the texts are, of a record that can be written. Assumes nothing.
 use Prim.Native.Nat.{ℕ, ◌+◌, ◌≤◌, ◌<◌}
 use mathlib.Core.Bool.{Bool, true, false}
-use mathlib.Core.Path.{◌≡◌, refl, ap, ◌∙◌}
+use mathlib.Core.Path.{◌≡◌, refl, ap}
 use mathlib.Core.List.{[], ◌∷◌, ◌++◌}
 use native.Mathlib.Omega.{arith}
 use lib.Dec.{leb}

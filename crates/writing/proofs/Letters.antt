@@ -2,7 +2,7 @@
 use Prim.Native.Nat.{ℕ, ◌+◌, ◌-◌, ◌/◌, ◌%◌, ◌≤◌, ◌<◌}
 use Prim.Native.Char.{Char, code}
 use mathlib.Core.Bool.{Bool, true, false, ◌&&◌}
-use mathlib.Core.Path.{◌≡◌, refl, sym, ap, ◌∙◌, subst}
+use mathlib.Core.Path.{◌≡◌, refl, subst}
 use mathlib.Core.List.{List, [], ◌∷◌}
 use native.Mathlib.Omega.{arith}
 use native.Mathlib.Nat.{le_of_eq, le_trans}
@@ -10,13 +10,13 @@ use native.Mathlib.Decide.{dec_lt}
 use borrow.Author.Tests.{eqb-true}
 use lib.Dec.{T, eqb, ltb, leb, eqb→eq, leb→le, lit<}
 use lib.ListN.{length}
-use Rattle.rules.specs.Basics.{if◌then◌else◌, is, every, Read, got, other, refuse, ◌>>=◌}
+use Rattle.rules.specs.Basics.{if◌then◌else◌, is, every, Read, got, refuse, ◌>>=◌}
 use Rattle.rules.specs.Calendar.{instant, day_of_year, since_monday, since_sunday, thursday, iso_week}
 use Rattle.rules.specs.Floats.{whole}
 use Rattle.rules.specs.Moments.{Moment}
-use Rattle.rules.specs.Writing.{wide, spaced, signed_year, year_short, three_decimals, unix_text, julian_text, julian_letter, letters, writer, letter, dial, week}
+use Rattle.rules.specs.Writing.{wide, signed_year, unix_text, julian_letter, letters, writer, letter, dial}
 use Rattle.rules.specs.declared.Refusal.{Refusal}
-use Rattle.calendar.specs.Ranges.{InRange, MonthDay}
+use Rattle.calendar.specs.Ranges.{InRange}
 use Rattle.calendar.proofs.Years.{in_year, year_length_lem, leap_le}
 use Rattle.calendar.proofs.Weeks.{thursday_date, week_high}
 use Rattle.real.proofs.Seconds.{minute_whole}
@@ -24,7 +24,7 @@ use Rattle.digits.proofs.Decimal.{length_exact}
 use Rattle.digits.proofs.Lengths.{length_spaced, length_year, length_short, length_second, length_julian}
 use Rattle.writing.specs.Printable.{Printable}
 use Rattle.writing.specs.Formats.{text_of, IsText, mosts, most_in, most}
-use Rattle.writing.specs.Texts.{date_of, half}
+use Rattle.writing.specs.Texts.{date_of}
 use Rattle.writing.proofs.Fields as field
 use Rattle.writing.proofs.Cases.{NoneOf, among, missed}
 use Rattle.writing.proofs.Texts.{julian_early, julian_late}

@@ -9,7 +9,7 @@ use lib.Signed.{mag}
 use mir.Syntax.{w64}
 use mir.Val.{to_z, of_z}
 use mir.ValLaws.{to_z-of_z}
-use Rattle.rules.specs.Basics.{Read, got, refuse}
+use Rattle.rules.specs.Basics.{got, refuse}
 use Rattle.rules.specs.Calendar.{instant}
 use Rattle.rules.specs.Moments.{Moment}
 use Rattle.rules.specs.Writing.{wide, signed_year, date_text, time_text, integer_text, unix_seconds, julian_text, julian_letter}

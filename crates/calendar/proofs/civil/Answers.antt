@@ -1,7 +1,6 @@
 -- `calendar::civil` meets its contract.
 use mathlib.Core.Path.{◌∙◌, ap}
 use Rattle.rules.specs.Calendar.{date_after, civil}
-use borrow.Author.Rules.{rules}
 use Rattle.calendar.proofs.civil.Goals as goal
 
 pub returns : goal.returns

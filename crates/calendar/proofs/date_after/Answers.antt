@@ -2,7 +2,6 @@
 use mathlib.Core.Path.{refl, sym}
 use Rattle.calendar.proofs.Counting.{only, countable}
 use Rattle.calendar.proofs.March.{march, spring, winter}
-use borrow.Author.Rules.{rules}
 use Rattle.calendar.proofs.date_after.Goals as goal
 
 pub returns-then-month-lt10 : goal.returns-then-month-lt10

@@ -11,7 +11,6 @@ use Rattle.rules.specs.Calendar.{leap, common_row, leap_row, month_lengths, sum,
 use Rattle.calendar.specs.Ranges.{MonthDay}
 use Rattle.calendar.proofs.Below.{below}
 use Rattle.calendar.proofs.Years.{leap_day, leap_le, year_length_lem, before_high, row}
-use borrow.Author.Rules.{rules}
 use Rattle.calendar.proofs.day_of_year.Goals as goal
 
 abbrev common_before : List ℕ

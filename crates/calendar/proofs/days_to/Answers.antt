@@ -5,7 +5,6 @@ use native.Mathlib.Omega.{arith}
 use Rattle.rules.specs.Calendar.{minus_year, years, day_of_year, days_to}
 use Rattle.calendar.specs.Ranges.{last_day, Countable}
 use Rattle.calendar.proofs.Years.{closed, days_high}
-use borrow.Author.Rules.{rules}
 use Rattle.calendar.proofs.days_to.Goals as goal
 
 -- the code's sum, with each quotient a variable

@@ -1,5 +1,5 @@
 -- `calendar::leap_row` meets its contract: what the code joins by `&&` and `||` is the rule.
-use Rattle.std.proofs.Common.{◌≡◌, ◌∙◌, ◌%◌, sym, not, ◌&&◌, ℕ, Bool, true, false, rules}
+use Rattle.std.proofs.Common.{◌≡◌, ◌∙◌, sym, not, ◌&&◌, rules}
 use borrow.Author.Tests.{eq-eqb, ne_eqb}
 use Rattle.rules.specs.Calendar.{leap, divides}
 use Rattle.calendar.proofs.leap_row.Goals as goal

@@ -2,7 +2,6 @@
 use native.Mathlib.Omega.{arith}
 use Rattle.rules.specs.Calendar.{midnight}
 use Rattle.calendar.proofs.Instants.{start_is}
-use borrow.Author.Rules.{rules}
 use Rattle.calendar.proofs.midnight.Goals as goal
 
 pub returns : goal.returns

@@ -2,11 +2,9 @@
 use mathlib.Core.Path.{◌≡◌, refl}
 use mathlib.Core.List.{[], ◌∷◌}
 use Prim.Native.Nat.{ℕ, ◌-◌, ◌≤◌}
-use native.Mathlib.Omega.{arith}
 use lib.ListN.{get_or}
 use Rattle.rules.specs.Calendar.{month_length, month_lengths, common_row, leap_row}
 use Rattle.calendar.proofs.Years.{leap_day, row, month_low, month_high}
-use borrow.Author.Rules.{rules}
 use Rattle.calendar.proofs.month_length.Goals as goal
 
 -- the code's table is that of the rules

@@ -2,7 +2,6 @@
 use native.Mathlib.Omega.{arith}
 use Rattle.rules.specs.Calendar.{since_sunday}
 use Rattle.calendar.proofs.Instants.{day_zero_lem}
-use borrow.Author.Rules.{rules}
 use Rattle.calendar.proofs.since_sunday.Goals as goal
 
 pub returns : goal.returns

@@ -3,7 +3,6 @@ use mathlib.Core.Path.{◌∙◌, ap₂}
 use Prim.Native.Nat.{ℕ, ◌+◌, ◌-◌}
 use Rattle.rules.specs.Calendar.{date_after, thursday}
 use Rattle.calendar.proofs.Weeks.{thursday_high}
-use borrow.Author.Rules.{rules}
 use Rattle.calendar.proofs.thursday.Goals as goal
 
 pub date_after-requires : goal.date_after-requires

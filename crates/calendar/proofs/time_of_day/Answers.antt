@@ -2,7 +2,6 @@
 use native.Mathlib.Omega.{arith}
 use Rattle.rules.specs.Calendar.{time_of_day}
 use Rattle.calendar.proofs.Instants.{start_is}
-use borrow.Author.Rules.{rules}
 use Rattle.calendar.proofs.time_of_day.Goals as goal
 
 pub returns-then-ms-lt-START : goal.returns-then-ms-lt-START

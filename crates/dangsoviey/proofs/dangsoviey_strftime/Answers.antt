@@ -7,7 +7,6 @@ use Rattle.rules.specs.Calls.{strftime, value_of}
 use Rattle.rules.specs.Functions.{answer}
 use Rattle.rules.specs.declared.Given.{Given}
 use Rattle.dangsoviey.proofs.Replies.{as_given, replied}
-use borrow.Author.Rules.{rules}
 use Rattle.dangsoviey.proofs.dangsoviey_strftime.Goals as goal
 
 pub returns : goal.returns

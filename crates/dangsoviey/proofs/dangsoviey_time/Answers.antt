@@ -8,7 +8,6 @@ use Rattle.rules.specs.Functions.{answer}
 use Rattle.rules.specs.declared.Function.{Function}
 use Rattle.rules.specs.declared.Given.{Given}
 use Rattle.dangsoviey.proofs.Replies.{as_given, replied}
-use borrow.Author.Rules.{rules}
 use Rattle.dangsoviey.proofs.dangsoviey_time.Goals as goal
 
 pub returns : goal.returns

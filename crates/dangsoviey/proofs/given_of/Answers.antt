@@ -4,7 +4,6 @@ use mir.Syntax.{w64}
 use mir.ValLaws.{to_z-of_z}
 use Rattle.rules.specs.declared.Given.{Given}
 use Rattle.dangsoviey.proofs.Replies.{given_other}
-use borrow.Author.Rules.{rules}
 use Rattle.dangsoviey.proofs.given_of.Goals as goal
 
 pub returns-in-0 : goal.returns-in-0

@@ -1,7 +1,6 @@
 -- `dangsoviey::refused` meets its contract. Assumes nothing.
 use mathlib.Core.Path.{refl}
 use lib.Ieee.{of_bits, of_int}
-use borrow.Author.Rules.{rules}
 use Rattle.dangsoviey.proofs.refused.Goals as goal
 
 pub returns : goal.returns

@@ -2,7 +2,6 @@
 use Rattle.datetime.specs.Opened.{Ready}
 use Rattle.datetime.proofs.Given.{stated, gives_refusal}
 use Rattle.datetime.proofs.Answers.{landed, call_refused, datetime_answer}
-use borrow.Author.Rules.{rules}
 use Rattle.datetime.proofs.datetime.Goals as goal
 
 pub renewed-requires : goal.renewed-requires

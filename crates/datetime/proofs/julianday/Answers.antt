@@ -1,7 +1,6 @@
 -- `datetime::julianday` meets its contract. Assumes nothing.
 use Rattle.datetime.specs.Opened.{Ready}
 use Rattle.datetime.proofs.Answers.{landed, number_refused, julianday_answer}
-use borrow.Author.Rules.{rules}
 use Rattle.datetime.proofs.julianday.Goals as goal
 
 pub julian_real-requires : goal.julian_real-requires

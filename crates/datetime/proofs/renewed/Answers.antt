@@ -1,7 +1,6 @@
 -- `datetime::renewed` meets its contract. Assumes nothing.
 use mathlib.Core.Path.{◌∙◌}
 use Rattle.datetime.proofs.Answers.{filled_anew, renewed_none, renewed_some}
-use borrow.Author.Rules.{rules}
 use Rattle.datetime.proofs.renewed.Goals as goal
 
 pub renewed-requires : goal.renewed-requires

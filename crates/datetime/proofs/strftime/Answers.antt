@@ -5,7 +5,6 @@ use Rattle.rules.specs.Moments.{Moment}
 use Rattle.datetime.specs.Opened.{Ready}
 use Rattle.datetime.proofs.Given.{stated, gives_refusal}
 use Rattle.datetime.proofs.Answers.{landed, filled, strftime_refused, strftime_answer}
-use borrow.Author.Rules.{rules}
 use Rattle.datetime.proofs.strftime.Goals as goal
 
 pub fill-requires : goal.fill-requires

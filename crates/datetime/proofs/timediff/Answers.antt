@@ -1,7 +1,6 @@
 -- `datetime::timediff` meets its contract. Assumes nothing.
 use Rattle.datetime.proofs.Given.{stated, gives_refusal}
 use Rattle.datetime.proofs.Differences.{both_in_range, timediff_answer, timediff_refused}
-use borrow.Author.Rules.{rules}
 use Rattle.datetime.proofs.timediff.Goals as goal
 
 pub difference-requires : goal.difference-requires

@@ -1,7 +1,6 @@
 -- `datetime::unixepoch` meets its contract. Assumes nothing.
 use Rattle.datetime.specs.Opened.{Ready}
 use Rattle.datetime.proofs.Answers.{landed, number_refused, unixepoch_answer}
-use borrow.Author.Rules.{rules}
 use Rattle.datetime.proofs.unixepoch.Goals as goal
 
 pub unix-requires : goal.unix-requires

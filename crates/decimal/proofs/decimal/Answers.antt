@@ -11,7 +11,6 @@ use Rattle.rules.specs.Basics.{Read, ◌or◌}
 use Rattle.rules.specs.Decimal.{sign, named_form, digits_form, decimal}
 use Rattle.decimal.specs.AsRead.{as_read}
 use Rattle.decimal.specs.declared.Number.{Number}
-use borrow.Author.Rules.{rules}
 use Rattle.decimal.proofs.decimal.Goals as goal
 use Rattle.decimal.proofs.decimal.Tie as tie
 use Rattle.decimal.proofs.decimal.Lts as lts

@@ -13,7 +13,6 @@ use Rattle.decimal.specs.Held.{as_exponent}
 use Rattle.decimal.specs.declared.Power.{Power}
 use Rattle.decimal.proofs.Limits.{scaled, held_down}
 use Rattle.decimal.proofs.Readers.{taken_small, digits_none, digits_some}
-use borrow.Author.Rules.{rules}
 use Rattle.decimal.proofs.digits_form.Goals as goal
 use Rattle.decimal.proofs.digits_form.Tie as tie
 use Rattle.decimal.proofs.digits_form.Lts as lts

@@ -2,12 +2,10 @@
 use mathlib.Core.Path.{◌≡◌, sym, ap, ◌∙◌}
 use mathlib.Core.Bool.{Bool}
 use lib.ListN.{drop}
-use borrow.Author.Tests.{not-true, not-false}
 use Rattle.rules.specs.Basics.{got}
 use Rattle.rules.specs.Decimal.{run, exponent}
 use Rattle.decimal.specs.Held.{held_exponent}
 use Rattle.decimal.proofs.Readers.{magnitude, exponent_end, exponent_other, exponent_digits, magnitude_none, magnitude_more, magnitude_got}
-use borrow.Author.Rules.{rules}
 use Rattle.decimal.proofs.exponent.Goals as goal
 use Rattle.decimal.proofs.exponent.Tie as tie
 use Rattle.decimal.proofs.exponent.Lts as lts

@@ -4,7 +4,6 @@ use mathlib.Core.Bool.{Bool, true, false}
 use Prim.Native.Nat.{ℕ}
 use lib.Dec.{eqb}
 use borrow.Author.Tests.{eq-eqb, ne_eqb, eqb-true, eqb-false}
-use borrow.Author.Rules.{rules}
 use Rattle.decimal.proofs.is_e.Goals as goal
 
 swap : (m n : ℕ) → eqb m n ≡ eqb n m

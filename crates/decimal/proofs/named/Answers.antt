@@ -4,7 +4,6 @@ use mathlib.Core.Bool.{Bool, true, false}
 use lib.Ieee.{Float, inf, binary64, of_bits, div, neg}
 use Rattle.rules.specs.Basics.{if◌then◌else◌, ascii, word, got}
 use Rattle.decimal.proofs.Readers.{named_inf, named_infinity, named_nan, named_none}
-use borrow.Author.Rules.{rules}
 use Rattle.decimal.proofs.named.Goals as goal
 use Rattle.decimal.proofs.named.Tie as tie
 use Rattle.decimal.proofs.named.Lts as lts

@@ -7,7 +7,6 @@ use native.Mathlib.Omega.{arith}
 use lib.Ieee.{Float, binary64, of_bits, round, neg}
 use Rattle.rules.specs.Basics.{if◌then◌else◌, got}
 use Rattle.decimal.proofs.Limits.{too_high, too_low, too_long, none, raised, divided, refused, signed}
-use borrow.Author.Rules.{rules}
 use Rattle.decimal.proofs.nearest_to.Goals as goal
 
 abbrev with_sign : Bool → Float → Float

@@ -3,11 +3,9 @@ use lib.ListN.{drop}
 use mathlib.Core.Path.{◌≡◌, sym, ◌∙◌}
 use mathlib.Core.Bool.{true}
 use native.Mathlib.Omega.{arith}
-use borrow.Author.Tests.{not-true, not-false}
 use Rattle.text.specs.Places.{stands}
 use Rattle.text.proofs.Reading.{stands_inside}
 use Rattle.decimal.proofs.Readers.{taken_none, point_none, point_some}
-use borrow.Author.Rules.{rules}
 use Rattle.decimal.proofs.point.Goals as goal
 use Rattle.decimal.proofs.point.Tie as tie
 use Rattle.decimal.proofs.point.Lts as lts

@@ -3,14 +3,12 @@ use mathlib.Core.Path.{◌≡◌, sym, ap, ◌∙◌}
 use mathlib.Core.Bool.{true}
 use Prim.Native.Nat.{ℕ, ◌+◌, ◌-◌, ◌*◌, ◌≤◌}
 use native.Mathlib.Omega.{arith}
-use borrow.Author.Tests.{not-true, not-false}
-use lib.ListN.{length, get_or}
+use lib.ListN.{get_or}
 use Rattle.rules.specs.Basics.{is_digit}
 use Rattle.decimal.specs.Held.{held}
 use Rattle.real.proofs.Run.{run_end}
 use Rattle.text.proofs.Bytes.{digit_bounds}
-use Rattle.decimal.proofs.Readers.{Passed, passed_none, passed_more, passed_all, run_other}
-use borrow.Author.Rules.{rules}
+use Rattle.decimal.proofs.Readers.{passed_none, passed_more, passed_all, run_other}
 use Rattle.decimal.proofs.run.Goals as goal
 use Rattle.decimal.proofs.run.Tie as tie
 use Rattle.decimal.proofs.run.Lts as lts

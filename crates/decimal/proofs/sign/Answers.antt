@@ -4,7 +4,6 @@ use mathlib.Core.Path.{sym, ◌∙◌}
 use native.Mathlib.Omega.{arith}
 use Rattle.text.proofs.Reading.{stands_inside}
 use Rattle.decimal.proofs.Readers.{sign_minus, sign_plus, sign_none}
-use borrow.Author.Rules.{rules}
 use Rattle.decimal.proofs.sign.Goals as goal
 
 pub returns-then-has : goal.returns-then-has

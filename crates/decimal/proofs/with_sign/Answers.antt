@@ -1,5 +1,4 @@
 -- `decimal::with_sign` meets its contract. Assumes nothing.
-use borrow.Author.Rules.{rules}
 use Rattle.decimal.proofs.with_sign.Goals as goal
 
 pub returns-then-minus : goal.returns-then-minus

@@ -1,6 +1,5 @@
 -- `digits::hex_digit` meets its contract. Assumes nothing.
 use borrow.Author.Tests.{lt-ltb, le-ltb}
-use borrow.Author.Rules.{rules}
 use Rattle.digits.proofs.hex_digit.Goals as goal
 
 pub returns-then-d-lt10 : goal.returns-then-d-lt10

@@ -3,7 +3,6 @@ use mathlib.Core.Path.{ap}
 use native.Mathlib.Omega.{arith}
 use lib.ListN.{length}
 use Rattle.digits.proofs.Signs.{minus_text, plain_text}
-use borrow.Author.Rules.{rules}
 use Rattle.digits.proofs.integer_length.Goals as goal
 
 pub returns-then-n-lt0 : goal.returns-then-n-lt0

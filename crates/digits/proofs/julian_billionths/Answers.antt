@@ -2,7 +2,6 @@
 use mathlib.Core.Path.{ap, ◌∙◌}
 use Rattle.rules.specs.Floats.{decimals}
 use Rattle.real.proofs.Epoch.{julian_span}
-use borrow.Author.Rules.{rules}
 use Rattle.digits.proofs.julian_billionths.Goals as goal
 
 pub billionths-requires : goal.billionths-requires

@@ -7,7 +7,6 @@ use lib.ListN.{length-append, length}
 use Rattle.rules.specs.Writing.{places, wide}
 use Rattle.digits.proofs.Decimal.{length_places}
 use Rattle.digits.proofs.Trim.{julian_point, julian_whole}
-use borrow.Author.Rules.{rules}
 use Rattle.digits.proofs.julian_length.Goals as goal
 
 pub returns-then-fraction-eq0 : goal.returns-then-fraction-eq0

@@ -3,7 +3,6 @@ use native.Mathlib.Omega.{arith}
 use mir.Syntax.{w64}
 use mir.ValLaws.{to_z-of_z}
 use Rattle.digits.proofs.Signs.{below, above, flipped, flipped_back, one_more, not_minus}
-use borrow.Author.Rules.{rules}
 use Rattle.digits.proofs.magnitude.Goals as goal
 
 pub overflow_sub-result : goal.overflow_sub-result

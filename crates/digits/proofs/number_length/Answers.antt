@@ -1,7 +1,6 @@
 -- `digits::number_length` meets its contract. Assumes nothing.
 use native.Mathlib.Omega.{arith}
 use Rattle.digits.proofs.Decimal.{length_wide}
-use borrow.Author.Rules.{rules}
 use Rattle.digits.proofs.number_length.Goals as goal
 
 pub returns-then-n-least : goal.returns-then-n-least

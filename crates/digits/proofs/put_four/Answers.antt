@@ -6,7 +6,6 @@ use native.Mathlib.Omega.{arith}
 use Rattle.rules.specs.Writing.{wide}
 use Rattle.digits.proofs.Decimal.{wide_split}
 use Rattle.digits.proofs.Buffer.{room_as, room_first, room_then, laid_as, laid_then}
-use borrow.Author.Rules.{rules}
 use Rattle.digits.proofs.put_four.Goals as goal
 use Rattle.digits.proofs.put_four.Tie as tie
 use Rattle.digits.proofs.put_four.Lts as lts

@@ -4,11 +4,9 @@ use mathlib.Core.Path.{sym}
 use native.Mathlib.Omega.{arith}
 use lib.Ieee.{binary64, to_bits}
 use lib.ListN.{length}
-use Rattle.digits.specs.Writers.{hex_digit}
 use Rattle.digits.proofs.Hex.{hex_is, length_hex}
 use Rattle.digits.proofs.Buffer.{laid_as}
-use Rattle.digits.proofs.Down.{Down, down_start, down_turn, down_end}
-use borrow.Author.Rules.{rules}
+use Rattle.digits.proofs.Down.{down_start, down_turn, down_end}
 use Rattle.digits.proofs.put_hex.Goals as goal
 use Rattle.digits.proofs.put_hex.Tie as tie
 use Rattle.digits.proofs.put_hex.Lts as lts

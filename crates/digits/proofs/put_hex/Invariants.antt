@@ -1,13 +1,7 @@
 -- `digits::put_hex` meets its contract. Assumes nothing.
-use Prim.Native.Nat.{◌+◌, ◌≤◌}
-use mathlib.Core.Path.{sym}
-use native.Mathlib.Omega.{arith}
 use lib.Ieee.{binary64, to_bits}
-use lib.ListN.{length}
 use Rattle.digits.specs.Writers.{hex_digit}
-use Rattle.digits.proofs.Hex.{hex_is, length_hex}
-use Rattle.digits.proofs.Buffer.{laid_as}
-use Rattle.digits.proofs.Down.{Down, down_start, down_turn, down_end}
+use Rattle.digits.proofs.Down.{Down}
 use Rattle.digits.proofs.put_hex.Given as goal
 
 abbrev pub invariant-loop-left : goal.invariant-loop-left

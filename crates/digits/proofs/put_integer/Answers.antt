@@ -4,7 +4,6 @@ use mathlib.Core.List.{◌∷◌}
 use Rattle.rules.specs.Writing.{wide, integer_text}
 use Rattle.digits.proofs.Signs.{minus_text, plain_text}
 use Rattle.digits.proofs.Buffer.{room_as, laid_as}
-use borrow.Author.Rules.{rules}
 use Rattle.digits.proofs.put_integer.Goals as goal
 use Rattle.digits.proofs.put_integer.Tie as tie
 use Rattle.digits.proofs.put_integer.Lts as lts

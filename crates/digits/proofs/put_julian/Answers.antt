@@ -6,7 +6,6 @@ use native.Mathlib.Omega.{arith}
 use Rattle.rules.specs.Writing.{places, wide, julian_text}
 use Rattle.digits.proofs.Trim.{julian_whole, julian_point}
 use Rattle.digits.proofs.Buffer.{room_as, room_first, room_then, laid_as, laid_then}
-use borrow.Author.Rules.{rules}
 use Rattle.digits.proofs.put_julian.Goals as goal
 use Rattle.digits.proofs.put_julian.Tie as tie
 use Rattle.digits.proofs.put_julian.Lts as lts

@@ -1,6 +1,5 @@
 -- `digits::put_minus` meets its contract. Assumes nothing.
 use Rattle.digits.proofs.Buffer.{laid_then}
-use borrow.Author.Rules.{rules}
 use Rattle.digits.proofs.put_minus.Goals as goal
 
 pub returns : goal.returns

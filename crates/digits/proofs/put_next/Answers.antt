@@ -1,6 +1,5 @@
 -- `digits::put_next` meets its contract. Assumes nothing.
 use Rattle.digits.proofs.Buffer.{laid_then}
-use borrow.Author.Rules.{rules}
 use Rattle.digits.proofs.put_next.Goals as goal
 
 pub returns : goal.returns

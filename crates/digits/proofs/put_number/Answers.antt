@@ -4,7 +4,6 @@ use mathlib.Core.Path.{◌≡◌, sym, ap, ◌∙◌}
 use Rattle.rules.specs.Writing.{places, wide}
 use Rattle.digits.proofs.Decimal.{wide_length}
 use Rattle.digits.proofs.Buffer.{room_as, laid_as}
-use borrow.Author.Rules.{rules}
 use Rattle.digits.proofs.put_number.Goals as goal
 use Rattle.digits.proofs.put_number.Tie as tie
 use Rattle.digits.proofs.put_number.Lts as lts

@@ -3,7 +3,6 @@ use mathlib.Core.Path.{sym}
 use native.Mathlib.Omega.{arith}
 use Rattle.digits.proofs.Decimal.{wide_one}
 use Rattle.digits.proofs.Buffer.{room_as, laid_as, lay_one}
-use borrow.Author.Rules.{rules}
 use Rattle.digits.proofs.put_one.Goals as goal
 
 pub bounds-buf-at : goal.bounds-buf-at

@@ -3,12 +3,10 @@ use Prim.Native.Nat.{◌+◌, ◌≤◌}
 use mathlib.Core.Path.{sym}
 use native.Mathlib.Omega.{arith}
 use lib.ListN.{length}
-use Rattle.digits.proofs.Decimal.{digit, places_are, length_places}
+use Rattle.digits.proofs.Decimal.{places_are, length_places}
 use Rattle.digits.proofs.Buffer.{laid_as}
-use Rattle.digits.proofs.Down.{Down, down_start, down_turn, down_end}
-use borrow.Author.Rules.{rules}
+use Rattle.digits.proofs.Down.{down_start, down_turn, down_end}
 use Rattle.digits.proofs.put_places.Goals as goal
-use Rattle.digits.proofs.put_places.Tie as tie
 use Rattle.digits.proofs.put_places.Lts as lts
 use Rattle.digits.proofs.put_places.Reads as reads
 

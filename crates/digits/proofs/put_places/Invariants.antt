@@ -1,11 +1,6 @@
 -- `digits::put_places` meets its contract. Assumes nothing.
-use Prim.Native.Nat.{◌+◌, ◌≤◌}
-use mathlib.Core.Path.{sym}
-use native.Mathlib.Omega.{arith}
-use lib.ListN.{length}
-use Rattle.digits.proofs.Decimal.{digit, places_are, length_places}
-use Rattle.digits.proofs.Buffer.{laid_as}
-use Rattle.digits.proofs.Down.{Down, down_start, down_turn, down_end}
+use Rattle.digits.proofs.Decimal.{digit}
+use Rattle.digits.proofs.Down.{Down}
 use Rattle.digits.proofs.put_places.Given as goal
 
 abbrev pub invariant-loop-left : goal.invariant-loop-left

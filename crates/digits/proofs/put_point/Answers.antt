@@ -6,7 +6,6 @@ use native.Mathlib.Omega.{arith}
 use Rattle.rules.specs.Writing.{places, wide}
 use Rattle.digits.proofs.Decimal.{wide_low}
 use Rattle.digits.proofs.Buffer.{room_as, room_then, laid_as, laid_then}
-use borrow.Author.Rules.{rules}
 use Rattle.digits.proofs.put_point.Goals as goal
 use Rattle.digits.proofs.put_point.Tie as tie
 use Rattle.digits.proofs.put_point.Lts as lts

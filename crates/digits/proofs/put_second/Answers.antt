@@ -5,7 +5,6 @@ use native.Mathlib.Omega.{arith}
 use Rattle.rules.specs.Writing.{wide}
 use Rattle.real.proofs.Seconds.{minute_whole}
 use Rattle.digits.proofs.Buffer.{room_as, laid_as}
-use borrow.Author.Rules.{rules}
 use Rattle.digits.proofs.put_second.Goals as goal
 use Rattle.digits.proofs.put_second.Tie as tie
 use Rattle.digits.proofs.put_second.Lts as lts

@@ -5,7 +5,6 @@ use native.Mathlib.Omega.{arith}
 use Rattle.real.proofs.Seconds.{minute_below, minute_thousandths}
 use Rattle.digits.proofs.Floats.{three_is}
 use Rattle.digits.proofs.Buffer.{room_as, room_first, room_then, laid_as, laid_then}
-use borrow.Author.Rules.{rules}
 use Rattle.digits.proofs.put_second_decimals.Goals as goal
 use Rattle.digits.proofs.put_second_decimals.Tie as tie
 use Rattle.digits.proofs.put_second_decimals.Lts as lts

@@ -6,7 +6,6 @@ use native.Mathlib.Omega.{arith}
 use Rattle.rules.specs.Writing.{wide, year_short}
 use Rattle.digits.proofs.Texts.{short_plain, short_century, short_minus}
 use Rattle.digits.proofs.Buffer.{room_as, laid_as}
-use borrow.Author.Rules.{rules}
 use Rattle.digits.proofs.put_short_year.Goals as goal
 use Rattle.digits.proofs.put_short_year.Tie as tie
 use Rattle.digits.proofs.put_short_year.Lts as lts

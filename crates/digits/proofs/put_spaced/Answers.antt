@@ -4,7 +4,6 @@ use mathlib.Core.List.{[], ◌∷◌}
 use Rattle.rules.specs.Writing.{wide, spaced}
 use Rattle.digits.proofs.Texts.{spaced_one, spaced_two}
 use Rattle.digits.proofs.Buffer.{room_as, room_first, room_then, laid_as, laid_then}
-use borrow.Author.Rules.{rules}
 use Rattle.digits.proofs.put_spaced.Goals as goal
 use Rattle.digits.proofs.put_spaced.Tie as tie
 use Rattle.digits.proofs.put_spaced.Lts as lts

@@ -4,7 +4,6 @@ use native.Mathlib.Omega.{arith}
 use lib.ListN.{length-set}
 use Rattle.digits.proofs.Decimal.{wide_two}
 use Rattle.digits.proofs.Buffer.{room_as, laid_as, lay_two}
-use borrow.Author.Rules.{rules}
 use Rattle.digits.proofs.put_two.Goals as goal
 
 pub bounds-buf-at : goal.bounds-buf-at

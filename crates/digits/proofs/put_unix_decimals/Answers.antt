@@ -6,7 +6,6 @@ use Rattle.rules.specs.Writing.{places, wide}
 use Rattle.digits.specs.Writers.{unix_decimals}
 use Rattle.digits.proofs.Floats.{unix_is_minus, unix_is_plain}
 use Rattle.digits.proofs.Buffer.{room_as, room_first, room_then, laid_as, laid_then}
-use borrow.Author.Rules.{rules}
 use Rattle.digits.proofs.put_unix_decimals.Goals as goal
 use Rattle.digits.proofs.put_unix_decimals.Tie as tie
 use Rattle.digits.proofs.put_unix_decimals.Lts as lts

@@ -6,7 +6,6 @@ use native.Mathlib.Omega.{arith}
 use Rattle.rules.specs.Writing.{wide, signed_year}
 use Rattle.digits.proofs.Texts.{year_plain, year_minus}
 use Rattle.digits.proofs.Buffer.{room_as, laid_as}
-use borrow.Author.Rules.{rules}
 use Rattle.digits.proofs.put_year.Goals as goal
 use Rattle.digits.proofs.put_year.Tie as tie
 use Rattle.digits.proofs.put_year.Lts as lts

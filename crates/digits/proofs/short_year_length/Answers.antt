@@ -4,7 +4,6 @@ use native.Mathlib.Omega.{arith}
 use lib.ListN.{length}
 use Rattle.digits.proofs.Decimal.{length_exact}
 use Rattle.digits.proofs.Texts.{short_plain, short_century, short_minus}
-use borrow.Author.Rules.{rules}
 use Rattle.digits.proofs.short_year_length.Goals as goal
 
 pub returns-then-year-ge-YEAR_0 : goal.returns-then-year-ge-YEAR_0

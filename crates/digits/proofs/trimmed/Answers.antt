@@ -1,11 +1,7 @@
 -- `digits::trimmed` meets its contract. Assumes nothing.
-use Prim.Native.Nat.{◌≤◌}
-use mathlib.Core.Path.{◌≡◌, refl, sym, ◌∙◌}
+use mathlib.Core.Path.{refl, sym, ◌∙◌}
 use native.Mathlib.Omega.{arith}
-use Rattle.rules.specs.Basics.{is, trim_end}
-use Rattle.rules.specs.Writing.{places}
 use Rattle.digits.proofs.Trim.{trim_more, trim_end_lem, trim_none}
-use borrow.Author.Rules.{rules}
 use Rattle.digits.proofs.trimmed.Goals as goal
 
 pub loop-count-init : goal.loop-count-init

@@ -1,10 +1,8 @@
 -- `digits::trimmed` meets its contract. Assumes nothing.
 use Prim.Native.Nat.{◌≤◌}
-use mathlib.Core.Path.{◌≡◌, refl, sym, ◌∙◌}
-use native.Mathlib.Omega.{arith}
+use mathlib.Core.Path.{◌≡◌}
 use Rattle.rules.specs.Basics.{is, trim_end}
 use Rattle.rules.specs.Writing.{places}
-use Rattle.digits.proofs.Trim.{trim_more, trim_end_lem, trim_none}
 use Rattle.digits.proofs.trimmed.Given as goal
 
 abbrev pub invariant-loop-count : goal.invariant-loop-count

@@ -7,7 +7,6 @@ use lib.ListN.{length, length-append}
 use Rattle.rules.specs.Writing.{places, wide}
 use Rattle.digits.proofs.Decimal.{length_places}
 use Rattle.digits.proofs.Floats.{unix_is_minus, unix_is_plain}
-use borrow.Author.Rules.{rules}
 use Rattle.digits.proofs.unix_decimals_length.Goals as goal
 
 pub returns-then-ms-lt-UNIX_EPOCH : goal.returns-then-ms-lt-UNIX_EPOCH

@@ -2,7 +2,6 @@
 use mathlib.Core.Path.{ap, ◌∙◌}
 use Rattle.rules.specs.Floats.{decimals}
 use Rattle.real.proofs.Epoch.{unix_span}
-use borrow.Author.Rules.{rules}
 use Rattle.digits.proofs.unix_thousandths.Goals as goal
 
 pub thousandths-requires : goal.thousandths-requires

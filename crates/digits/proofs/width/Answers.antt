@@ -1,8 +1,7 @@
 -- `digits::width` meets its contract. Assumes nothing.
 use Prim.Native.Nat.{◌-◌}
 use native.Mathlib.Omega.{arith}
-use Rattle.digits.proofs.Decimal.{Counted, count_more, width_one}
-use borrow.Author.Rules.{rules}
+use Rattle.digits.proofs.Decimal.{count_more, width_one}
 use Rattle.digits.proofs.width.Goals as goal
 
 pub loop-rest-init : goal.loop-rest-init

@@ -1,7 +1,5 @@
 -- `digits::width` meets its contract. Assumes nothing.
-use Prim.Native.Nat.{◌-◌}
-use native.Mathlib.Omega.{arith}
-use Rattle.digits.proofs.Decimal.{Counted, count_more, width_one}
+use Rattle.digits.proofs.Decimal.{Counted}
 use Rattle.digits.proofs.width.Given as goal
 
 abbrev pub invariant-loop-rest : goal.invariant-loop-rest

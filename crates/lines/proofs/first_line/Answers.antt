@@ -3,7 +3,6 @@ use mathlib.Core.Path.{sym, ◌∙◌}
 use native.Mathlib.Omega.{arith}
 use lib.Seq.{length-take-le}
 use Rattle.lines.proofs.Numbers.{first_long, first_one, first_three, first_two}
-use borrow.Author.Rules.{rules}
 use Rattle.lines.proofs.first_line.Goals as goal
 
 pub returns-then-s-gt-LONGEST : goal.returns-then-s-gt-LONGEST

@@ -4,7 +4,6 @@ use Rattle.rules.specs.Program.{line, line_call}
 use Rattle.lines.specs.Fields.{outcome}
 use Rattle.lines.proofs.Outcomes.{sound}
 use Rattle.lines.proofs.Showing.{gives_shown}
-use borrow.Author.Rules.{rules}
 use Rattle.lines.proofs.line.Goals as goal
 
 pub show-requires : goal.show-requires

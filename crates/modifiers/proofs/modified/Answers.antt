@@ -1,14 +1,13 @@
 -- `modifiers::modified` meets its contract. Assumes nothing.
-use Rattle.std.proofs.Common.{◌-◌, length, sym, ap, ◌∙◌, arith, w64, to_z, rules}
+use Rattle.std.proofs.Common.{sym, ap, ◌∙◌, arith, w64}
 use Rattle.rules.specs.Modifiers.{modified}
 use Rattle.rules.specs.Calls.{modifiers}
 use Rattle.moment.proofs.Bounds.{after_more}
 use Rattle.moment.specs.Held.{held}
 use Rattle.moment.specs.Ranges.{most_before, read_of}
-use Rattle.modifiers.proofs.Walks.{Going, going_start, going_on, going_stop, going_end}
+use Rattle.modifiers.proofs.Walks.{going_start, going_on, going_stop, going_end}
 use Rattle.modifiers.proofs.Entries.{Entry, entry}
 use mir.ValLaws.{to_z-of_z}
-use borrow.Author.Rules.{rules}
 use Rattle.modifiers.proofs.modified.Goals as goal
 use Rattle.modifiers.proofs.modified.Tie as tie
 use Rattle.modifiers.proofs.modified.Lts as lts

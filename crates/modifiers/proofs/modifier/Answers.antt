@@ -1,5 +1,5 @@
 -- `modifiers::modifier` meets its contract. Assumes nothing.
-use Rattle.std.proofs.Common.{◌≤◌, length, sym, ap, ◌∙◌, subst, arith, w64, rules}
+use Rattle.std.proofs.Common.{◌≤◌, length, sym, ap, ◌∙◌, subst, arith, w64}
 use Rattle.rules.specs.Basics.{refuse, ◌or◌}
 use Rattle.rules.specs.Modifiers.{wide_space, localtime, utc, weekday, start_of, arithmetic}
 use Rattle.rules.specs.declared.Refusal.{Refusal}
@@ -10,7 +10,6 @@ use Rattle.modifiers.proofs.Dispatch.{of_kind, rest_from, rest_inside}
 use Rattle.modifiers.proofs.Answers.{answered_stepped, stepped, refused, stepped_as}
 use Rattle.modifiers.proofs.Forms.{trim_length}
 use mir.ValLaws.{to_z-of_z}
-use borrow.Author.Rules.{rules}
 use Rattle.modifiers.proofs.modifier.Goals as goal
 
 pub slice_bounds-weekday-count : goal.slice_bounds-weekday-count

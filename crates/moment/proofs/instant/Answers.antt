@@ -1,6 +1,5 @@
 -- `moment::instant` meets its contract.
 use mathlib.Core.Path.{refl}
-use borrow.Author.Rules.{rules}
 use Rattle.moment.proofs.instant.Goals as goal
 
 pub time_ms-requires : goal.time_ms-requires

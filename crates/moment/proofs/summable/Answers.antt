@@ -1,7 +1,6 @@
 -- `moment::summable` meets its contract.
 use native.Mathlib.Omega.{arith}
 use Rattle.moment.proofs.Steps.{too_early, too_late, in_time}
-use borrow.Author.Rules.{rules}
 use Rattle.moment.proofs.summable.Goals as goal
 
 pub returns-then-year-lt-FIRST_YEAR : goal.returns-then-year-lt-FIRST_YEAR

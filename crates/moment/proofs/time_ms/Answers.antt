@@ -1,7 +1,6 @@
 -- `moment::time_ms` meets its contract.
 use native.Mathlib.Omega.{arith}
 use Rattle.real.proofs.Seconds.{minute_ms}
-use borrow.Author.Rules.{rules}
 use Rattle.moment.proofs.time_ms.Goals as goal
 
 pub overflow_add-result-2 : goal.overflow_add-result-2

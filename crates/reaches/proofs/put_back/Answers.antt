@@ -5,7 +5,6 @@ use Rattle.rules.specs.Calls.{call}
 use Rattle.rules.specs.declared.Function.{Function}
 use Rattle.reaches.specs.Back.{span_of}
 use Rattle.reaches.proofs.Back.{back_room, back_text, out_text, back_short, out_short, back_refused, out_refused, said_span, no_integer, no_real, datetime_as_of}
-use borrow.Author.Rules.{rules}
 use Rattle.reaches.proofs.put_back.Goals as goal
 
 pub slice_bounds-datetime-end : goal.slice_bounds-datetime-end

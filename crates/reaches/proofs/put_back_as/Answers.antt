@@ -4,7 +4,6 @@ use lib.Seq.{length-take-le}
 use Rattle.rules.specs.Calls.{strftime}
 use Rattle.reaches.specs.Back.{span_of}
 use Rattle.reaches.proofs.Back.{back_room, back_text, out_text, back_short, out_short, back_refused, out_refused, said_span, no_integer, no_real, format_as_of}
-use borrow.Author.Rules.{rules}
 use Rattle.reaches.proofs.put_back_as.Goals as goal
 
 pub slice_bounds-strftime-end : goal.slice_bounds-strftime-end

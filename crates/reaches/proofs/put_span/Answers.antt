@@ -5,7 +5,6 @@ use lib.Seq.{length-take-le}
 use Rattle.rules.specs.Calls.{bytes, timediff}
 use Rattle.rules.specs.Functions.{answer}
 use Rattle.reaches.proofs.Back.{said, text_index, text_small, short_small, text_put, short_put, refused_put, said_text, no_integer, no_real}
-use borrow.Author.Rules.{rules}
 use Rattle.reaches.proofs.put_span.Goals as goal
 
 pub slice_bounds-timediff-end : goal.slice_bounds-timediff-end

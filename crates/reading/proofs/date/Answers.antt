@@ -1,6 +1,5 @@
 use Prim.Native.Nat.{ℕ}
 use mathlib.Core.Bool.{true}
-use mathlib.Core.Logic.{⊎_elim}
 use mathlib.Core.Path.{◌≡◌, sym, ap, ◌∙◌}
 use native.Mathlib.Omega.{arith}
 use lib.ListN.{drop}
@@ -13,7 +12,6 @@ use Rattle.reading.specs.Readers.{year_month_day, ymd_of, Limits, held_year, for
 use Rattle.moment.specs.Sums.{Fresh}
 use Rattle.reading.proofs.Steps.{read_as}
 use Rattle.reading.proofs.Dates.{no_date, no_time_after, date_and_time, date_unsettled, held_year_in, after_minus, no_minus}
-use borrow.Author.Rules.{rules}
 use Rattle.reading.proofs.date.Goals as goal
 use Rattle.reading.proofs.date.Goals.{then-minus, else-minus}
 use Rattle.reading.proofs.date.Tie as tie
@@ -24,8 +22,9 @@ use Rattle.reading.proofs.date.Reads as reads
 signed : (c : lts.Joined1 tie.the-claims reads.Pre reads.Post tie.handed_clauses) → let s = c.args.s.now in date_form s ≡ date_from (held_year c.has-minus.result) (drop c.if-minus.at s)
 signed c = let s = c.args.s.now in
     elim c.if-minus.branch [
-      then-minus w ↦ rw (w.at-is, w.if-minus.true) (after_minus s (sym c.has-minus.ensures ∙ w.if-minus.true))
-    | else-minus w ↦ rw (w.at-is, w.if-minus.false) (no_minus s (sym c.has-minus.ensures ∙ w.if-minus.false)) ]
+      | then-minus w ↦ rw (w.at-is, w.if-minus.true) (after_minus s (sym c.has-minus.ensures ∙ w.if-minus.true))
+      | else-minus w ↦ rw (w.at-is, w.if-minus.false) (no_minus s (sym c.has-minus.ensures ∙ w.if-minus.false))
+    ]
 
 pub returns-in_default : goal.returns-in_default
 returns-in_default c = record { result_value = sym (signed c.before.before.before ∙ no_date _ _ (read_as (ymd_of c.args.s.now) c.year_month_day.ensures.result_value c.in_default.is)); form_held = tt }

@@ -1,11 +1,10 @@
 use Prim.Native.Nat.{ℕ, ◌+◌, ◌-◌, ◌<◌}
-use mathlib.Core.Bool.{true, false}
+use mathlib.Core.Bool.{true}
 use mathlib.Core.Path.{◌≡◌, sym, ap, ◌∙◌}
 use mathlib.Core.List.{List}
 use native.Mathlib.Omega.{arith}
 use lib.Ieee.{Float}
 use lib.ListN.{length, drop, length-drop}
-use borrow.Author.Tests.{not-true, not-false}
 use Rattle.rules.specs.Decimal.{run}
 use Rattle.rules.specs.Reading as rule
 use Rattle.rules.specs.Reading.{fraction_of, fraction_in}
@@ -13,7 +12,6 @@ use Rattle.real.proofs.Literals.{nil}
 use Rattle.text.specs.Places.{begins}
 use Rattle.reading.proofs.Steps.{inside}
 use Rattle.reading.proofs.Fractions.{no_point, point_at, run_all, no_digits, some_digits}
-use borrow.Author.Rules.{rules}
 use Rattle.reading.proofs.fraction.Goals as goal
 use Rattle.reading.proofs.fraction.Tie as tie
 use Rattle.reading.proofs.fraction.Lts as lts

@@ -1,4 +1,3 @@
-use borrow.Author.Rules.{rules}
 use Rattle.reading.proofs.held_year.Goals as goal
 
 pub returns-then-minus : goal.returns-then-minus

@@ -6,7 +6,6 @@ use Rattle.rules.specs.Basics.{got, byte, digits}
 use Rattle.text.proofs.Reading.{read_of, told_of}
 use Rattle.reading.proofs.Steps.{byte_is, byte_not}
 use Rattle.reading.proofs.Zones.{five_bytes, no_hour, no_colon, no_minute, hour_and_minute}
-use borrow.Author.Rules.{rules}
 use Rattle.reading.proofs.hour_minute.Goals as goal
 use Rattle.reading.proofs.hour_minute.Tie as tie
 use Rattle.reading.proofs.hour_minute.Lts as lts

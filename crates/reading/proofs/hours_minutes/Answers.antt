@@ -5,10 +5,9 @@ use native.Mathlib.Omega.{arith}
 use lib.ListN.{drop}
 use Rattle.rules.specs.Basics.{ended}
 use Rattle.rules.specs.Reading.{hours_minutes}
-use Rattle.reading.specs.Readers.{hour_minute_of, UpTo}
+use Rattle.reading.specs.Readers.{hour_minute_of}
 use Rattle.reading.proofs.Steps.{read_as, ended_at, not_ended}
 use Rattle.reading.proofs.Zones.{no_minutes, minutes}
-use borrow.Author.Rules.{rules}
 use Rattle.reading.proofs.hours_minutes.Goals as goal
 use Rattle.reading.proofs.hours_minutes.Tie as tie
 use Rattle.reading.proofs.hours_minutes.Lts as lts

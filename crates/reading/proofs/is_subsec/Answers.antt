@@ -1,7 +1,6 @@
 use Rattle.rules.specs.Basics.{ascii, word}
 use mathlib.Core.Bool.{Bool, ◌||◌}
 use mathlib.Core.Path.{sym, ap, ◌∙◌}
-use borrow.Author.Rules.{rules}
 use Rattle.reading.proofs.is_subsec.Goals as goal
 
 pub returns-then-is_word : goal.returns-then-is_word

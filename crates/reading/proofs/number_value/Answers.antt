@@ -6,7 +6,6 @@ use Rattle.decimal.specs.AsRead.{as_read}
 use Rattle.reading.specs.Readers.{subsec_value}
 use Rattle.reading.proofs.Steps.{read_as}
 use Rattle.reading.proofs.Values.{number, no_number, refused}
-use borrow.Author.Rules.{rules}
 use Rattle.reading.proofs.number_value.Goals as goal
 
 pub returns-in-Is : goal.returns-in-Is

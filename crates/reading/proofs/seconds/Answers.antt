@@ -1,11 +1,10 @@
-use Prim.Native.Nat.{ℕ, ◌+◌, ◌≤◌}
-use mathlib.Core.Bool.{true, false}
+use Prim.Native.Nat.{ℕ, ◌+◌}
+use mathlib.Core.Bool.{true}
 use mathlib.Core.Path.{◌≡◌, sym, ap, ◌∙◌}
 use mathlib.Core.List.{List}
 use native.Mathlib.Omega.{arith}
 use lib.Ieee.{Float}
-use lib.ListN.{length, drop, length-drop}
-use borrow.Author.Tests.{not-true, not-false}
+use lib.ListN.{drop, length-drop}
 use Rattle.rules.specs.Basics.{got}
 use Rattle.rules.specs.Floats.{number, ◌⊕◌}
 use Rattle.rules.specs.Reading as rule
@@ -15,7 +14,6 @@ use Rattle.text.specs.Places.{begins}
 use Rattle.text.proofs.Reading.{read_of, told_of}
 use Rattle.reading.proofs.Steps.{inside}
 use Rattle.reading.proofs.Fractions.{no_seconds, colon_at, not_digits, with_fraction, zero_minute, minute}
-use borrow.Author.Rules.{rules}
 use Rattle.reading.proofs.seconds.Goals as goal
 use Rattle.reading.proofs.seconds.Tie as tie
 use Rattle.reading.proofs.seconds.Lts as lts

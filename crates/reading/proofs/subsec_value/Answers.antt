@@ -4,7 +4,6 @@ use Rattle.rules.specs.Basics.{got}
 use Rattle.rules.specs.Moments.{Moment, set_subsec}
 use Rattle.rules.specs.Reading.{now as now·rule}
 use Rattle.reading.proofs.Values.{is_subsec, is_nothing}
-use borrow.Author.Rules.{rules}
 use Rattle.reading.proofs.subsec_value.Goals as goal
 
 pub returns-then-is_subsec : goal.returns-then-is_subsec

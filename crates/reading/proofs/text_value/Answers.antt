@@ -5,7 +5,6 @@ use Rattle.rules.specs.Reading.{now as now·rule}
 use Rattle.reading.specs.Readers.{form_of}
 use Rattle.reading.proofs.Steps.{read_as}
 use Rattle.reading.proofs.Values.{is_date, is_time, is_now, is_last}
-use borrow.Author.Rules.{rules}
 use Rattle.reading.proofs.text_value.Goals as goal
 use Rattle.reading.proofs.text_value.Tie as tie
 use Rattle.reading.proofs.text_value.Lts as lts

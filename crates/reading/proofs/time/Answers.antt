@@ -1,14 +1,11 @@
-use Prim.Native.Nat.{ℕ, ◌≤◌}
-use mathlib.Core.Path.{◌≡◌, sym, ap, ◌∙◌}
-use mathlib.Core.List.{List}
-use native.Mathlib.Omega.{arith}
+use Prim.Native.Nat.{◌≤◌}
+use mathlib.Core.Path.{◌≡◌, sym}
 use lib.ListN.{drop}
 use Rattle.rules.specs.Basics.{got}
 use Rattle.rules.specs.Reading as rule
 use Rattle.reading.specs.Readers.{hour_minute, hour_minute_of, zone_of, seconds_of, InZones}
 use Rattle.reading.proofs.Steps.{read_as}
 use Rattle.reading.proofs.Times.{no_hour_minute, no_second, no_zone_after, time_of_lem}
-use borrow.Author.Rules.{rules}
 use Rattle.reading.proofs.time.Goals as goal
 use Rattle.reading.proofs.time.Tie as tie
 use Rattle.reading.proofs.time.Lts as lts

@@ -5,7 +5,6 @@ use lib.ListN.{length, drop, length-drop, drop_of_length-le}
 use Rattle.rules.specs.Basics.{got}
 use Rattle.rules.specs.Reading.{time_after}
 use Rattle.reading.proofs.Dates.{time_follows, blank_fresh}
-use borrow.Author.Rules.{rules}
 use Rattle.reading.proofs.time_after.Goals as goal
 
 pub returns-then-s-at : goal.returns-then-s-at

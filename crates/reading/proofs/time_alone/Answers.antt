@@ -3,7 +3,6 @@ use Rattle.rules.specs.Basics.{got}
 use Rattle.reading.specs.Readers.{time_of}
 use Rattle.reading.proofs.Steps.{read_as}
 use Rattle.reading.proofs.Dates.{no_time, time_form_lem, timed_fresh}
-use borrow.Author.Rules.{rules}
 use Rattle.reading.proofs.time_alone.Goals as goal
 
 pub returns-in_default : goal.returns-in_default

@@ -4,7 +4,7 @@ use Prim.Native.Nat.{ℕ, ◌≤◌}
 use mathlib.Core.Path.{◌≡◌, sym, ap, ◌∙◌, subst}
 use mathlib.Core.List.{List}
 use lib.ListN.{length}
-use Rattle.rules.specs.Basics.{Read, got}
+use Rattle.rules.specs.Basics.{got}
 use Rattle.rules.specs.Calls.{value_of, bytes_of}
 use Rattle.rules.specs.Reading.{raw_number, time_value}
 use Rattle.rules.specs.Reading.{now as now·rule}

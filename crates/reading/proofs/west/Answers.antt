@@ -1,9 +1,8 @@
-use Prim.Native.Nat.{ℕ, ◌≤◌}
-use mathlib.Core.Path.{◌≡◌, sym, ap, ◌∙◌}
+use Prim.Native.Nat.{◌≤◌}
+use mathlib.Core.Path.{sym, ap}
 use native.Mathlib.Omega.{arith}
 use Rattle.reading.specs.Readers.{minutes_of, west_by}
 use Rattle.reading.proofs.Steps.{read_as}
-use borrow.Author.Rules.{rules}
 use Rattle.reading.proofs.west.Goals as goal
 use Rattle.reading.proofs.west.Tie as tie
 use Rattle.reading.proofs.west.Lts as lts

@@ -6,7 +6,6 @@ use Rattle.rules.specs.Basics.{got, byte, digits}
 use Rattle.text.proofs.Reading.{read_of, told_of}
 use Rattle.reading.proofs.Steps.{byte_is, byte_not}
 use Rattle.reading.proofs.Dates.{ten_bytes, no_year, no_dash, no_month, no_second, no_day, ymd}
-use borrow.Author.Rules.{rules}
 use Rattle.reading.proofs.year_month_day.Goals as goal
 use Rattle.reading.proofs.year_month_day.Tie as tie
 use Rattle.reading.proofs.year_month_day.Lts as lts

@@ -1,14 +1,13 @@
 use Prim.Native.Nat.{ℕ, ◌+◌}
 use mathlib.Core.Logic.{inl, inr, ⊎_elim}
-use mathlib.Core.Path.{◌≡◌, refl, sym, ap, ◌∙◌}
-use mathlib.Core.List.{List, ◌∷◌}
+use mathlib.Core.Path.{◌≡◌, sym, ap, ◌∙◌}
+use mathlib.Core.List.{◌∷◌}
 use native.Mathlib.Omega.{arith}
 use lib.ListN.{drop, get_or, drop_of_length-le}
 use Rattle.rules.specs.Basics.{skip}
 use Rattle.rules.specs.Reading.{space, zone_in}
 use Rattle.reading.proofs.Steps.{at_byte}
 use Rattle.reading.proofs.Zones.{no_zone_lem, zone_upper, zone_lower, zone_east, zone_west, zone_other}
-use borrow.Author.Rules.{rules}
 use Rattle.reading.proofs.zone.Goals as goal
 use Rattle.reading.proofs.zone.Tie as tie
 use Rattle.reading.proofs.zone.Lts as lts

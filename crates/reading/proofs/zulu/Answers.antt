@@ -6,7 +6,6 @@ use native.Mathlib.Omega.{arith}
 use Rattle.rules.specs.Basics.{ended}
 use Rattle.rules.specs.Moments.{no_zone}
 use Rattle.reading.proofs.Steps.{ended_at, not_ended}
-use borrow.Author.Rules.{rules}
 use Rattle.reading.proofs.zulu.Goals as goal
 
 pub returns-then-skip_space-s : goal.returns-then-skip_space-s

@@ -1,5 +1,4 @@
 -- `real::below` meets its contract: the first test decides, or the second. Assumes nothing.
-use borrow.Author.Rules.{rules}
 use Rattle.real.proofs.below.Goals as goal
 
 pub returns-then-n-limit : goal.returns-then-n-limit

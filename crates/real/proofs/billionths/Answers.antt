@@ -2,7 +2,6 @@
 use Rattle.std.proofs.Common.{◌≡◌, ℕ, ◌+◌, ◌*◌, ◌/◌, ◌%◌, ◌^◌, ◌<◌, ◌≤◌, sym, refl, ap, ◌∙◌, subst, le_trans, lt_of_lt_of_le, mod-lt, arith, lit≤, pow_pos, pow_mono}
 use lib.Ieee.Nearest.{closest}
 use Rattle.real.proofs.Fixed.{decimals_of, one_shifted, split, rest_le, nine_below, nine_shift, nine_whole}
-use borrow.Author.Rules.{rules}
 use Rattle.real.proofs.billionths.Goals as goal
 use Rattle.real.proofs.billionths.Tie as tie
 use Rattle.real.proofs.billionths.Lts as lts

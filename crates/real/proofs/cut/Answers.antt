@@ -1,9 +1,8 @@
 -- `real::cut` meets its contract: the cast where it fits, and the ends of the range past it. Assumes nothing.
-use Rattle.std.proofs.Common.{T, sym, ap, subst, rules}
+use Rattle.std.proofs.Common.{T, sym, ap, subst}
 use lib.Ieee.{of_bits, neg, to_signed}
 use lib.Ieee.Compare.{differs_from_itself}
 use Rattle.real.proofs.Ends.{over_signed, under_signed}
-use borrow.Author.Rules.{rules}
 use Rattle.real.proofs.cut.Goals as goal
 
 pub truncating_f64_to_i64-requires : goal.truncating_f64_to_i64-requires

@@ -4,9 +4,7 @@ use lib.Signed.{quot_z}
 use mir.ValLaws.{to_z-of_z}
 use Rattle.rules.specs.Writing.{floor_div}
 use Rattle.real.proofs.Signs.{quot_fits, rem_fits, floor_fits, floor_less, floor_same}
-use borrow.Author.Rules.{rules}
 use Rattle.real.proofs.floor_seconds.Goals as goal
-use Rattle.real.proofs.floor_seconds.Tie as tie
 use Rattle.real.proofs.floor_seconds.Lts as lts
 use Rattle.real.proofs.floor_seconds.Reads as reads
 

@@ -1,16 +1,14 @@
 -- `real::fraction_at` meets its contract. The loop's invariant: what is left of the digits, summed on from here, gives what all of them
 -- give from the start, and so does what follows them. Assumes nothing.
-use Rattle.std.proofs.Common.{◌≡◌, ℕ, ◌+◌, ◌-◌, ◌<◌, ◌≤◌, List, [], length, get_or, drop, sym, refl, ap, ◌∙◌, ⊎_elim, le_refl, arith, ltb-false, ltb-true}
+use Rattle.std.proofs.Common.{◌≡◌, ℕ, ◌+◌, ◌-◌, ◌<◌, ◌≤◌, List, [], length, get_or, drop, sym, refl, ap, ◌∙◌, ⊎_elim, le_refl, arith}
 use lib.Ieee.{Float}
 use Rattle.rules.specs.Floats.{number, ◌⊕◌, ◌⊗◌}
 use Rattle.rules.specs.Decimal.{run}
 use Rattle.rules.specs.Reading.{digit_sum, scale, fraction_of}
 use Rattle.real.proofs.Literals.{nil, one, ten, most}
 use Rattle.real.proofs.Run.{run_step, run_end, run_low, run_high}
-use borrow.Author.Rules.{rules}
 use Rattle.real.proofs.fraction_at.Goals as goal
 use Rattle.real.proofs.fraction_at.Goals.{else-loop-next-test, then-loop-next-test+then-b-lt48}
-use Rattle.real.proofs.fraction_at.Tie as tie
 use Rattle.real.proofs.fraction_at.Lts as lts
 use Rattle.real.proofs.fraction_at.Reads as reads
 use Rattle.real.proofs.fraction_at.Invariants.{Going}

@@ -1,12 +1,10 @@
 -- `real::fraction_at` meets its contract. The loop's invariant: what is left of the digits, summed on from here, gives what all of them
 -- give from the start, and so does what follows them. Assumes nothing.
-use Rattle.std.proofs.Common.{◌≡◌, ℕ, ◌+◌, ◌-◌, ◌<◌, ◌≤◌, List, [], length, get_or, drop, sym, refl, ap, ◌∙◌, ⊎_elim, le_refl, arith, ltb-false, ltb-true}
+use Rattle.std.proofs.Common.{◌≡◌, ℕ, ◌-◌, ◌≤◌, List, length, drop}
 use lib.Ieee.{Float}
-use Rattle.rules.specs.Floats.{number, ◌⊕◌, ◌⊗◌}
+use Rattle.rules.specs.Floats.{number}
 use Rattle.rules.specs.Decimal.{run}
-use Rattle.rules.specs.Reading.{digit_sum, scale, fraction_of}
-use Rattle.real.proofs.Literals.{nil, one, ten, most}
-use Rattle.real.proofs.Run.{run_step, run_end, run_low, run_high}
+use Rattle.rules.specs.Reading.{digit_sum, scale}
 use Rattle.real.proofs.fraction_at.Given as goal
 
 pub record Going (s : List ℕ) (at : ℕ) (x y : Float) (next : ℕ) : Type 0 where

@@ -1,10 +1,9 @@
 -- `real::fraction_ms` meets its contract. Assumes nothing.
-use Rattle.std.proofs.Common.{◌≡◌, ap, ◌∙◌, w64, rules}
+use Rattle.std.proofs.Common.{◌≡◌, ap, ◌∙◌, w64}
 use lib.Ieee.{binary64, of_int}
 use mir.ValLaws.{to_z-of_z}
 use Rattle.rules.specs.Floats.{cut}
 use Rattle.real.proofs.Literals.{day}
-use borrow.Author.Rules.{rules}
 use Rattle.real.proofs.fraction_ms.Goals as goal
 use Rattle.real.proofs.fraction_ms.Tie as tie
 use Rattle.real.proofs.fraction_ms.Lts as lts

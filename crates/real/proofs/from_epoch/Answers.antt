@@ -1,6 +1,5 @@
 -- `real::from_epoch` meets its contract. Assumes nothing.
 use Rattle.real.proofs.Literals.{thousand, epoch}
-use borrow.Author.Rules.{rules}
 use Rattle.real.proofs.from_epoch.Goals as goal
 
 pub returns : goal.returns

@@ -1,6 +1,5 @@
 -- `real::is_auto` meets its contract: the first test decides, or the second. Assumes nothing.
 use Rattle.real.proofs.Literals.{auto_low, auto_high}
-use borrow.Author.Rules.{rules}
 use Rattle.real.proofs.is_auto.Goals as goal
 
 pub returns-then-s : goal.returns-then-s

@@ -1,6 +1,5 @@
 -- `real::is_julian` meets its contract: the first test decides, or the second. Assumes nothing.
 use Rattle.real.proofs.Literals.{nil, julian_end}
-use borrow.Author.Rules.{rules}
 use Rattle.real.proofs.is_julian.Goals as goal
 
 pub returns-then-n : goal.returns-then-n

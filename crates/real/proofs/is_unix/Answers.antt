@@ -1,6 +1,5 @@
 -- `real::is_unix` meets its contract: the first test decides, or the second. Assumes nothing.
 use Rattle.real.proofs.Literals.{nil, end}
-use borrow.Author.Rules.{rules}
 use Rattle.real.proofs.is_unix.Goals as goal
 
 pub returns-then-r : goal.returns-then-r

@@ -1,7 +1,5 @@
 -- `real::julian_ms` meets its contract. Assumes nothing.
-use Rattle.std.proofs.Common.{rules}
 use Rattle.real.proofs.Literals.{day, half}
-use borrow.Author.Rules.{rules}
 use Rattle.real.proofs.julian_ms.Goals as goal
 
 pub returns : goal.returns

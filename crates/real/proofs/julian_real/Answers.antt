@@ -1,9 +1,8 @@
 -- `real::julian_real` meets its contract. Assumes nothing.
-use Rattle.std.proofs.Common.{◌-◌, arith, le→leb, rules}
+use Rattle.std.proofs.Common.{◌-◌, arith, le→leb}
 use lib.Ieee.{in_float}
 use Rattle.rules.specs.Writing.{julian_real}
 use Rattle.real.proofs.Literals.{day}
-use borrow.Author.Rules.{rules}
 use Rattle.real.proofs.julian_real.Goals as goal
 
 pub int_to_float-result : goal.int_to_float-result

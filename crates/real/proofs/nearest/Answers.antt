@@ -1,7 +1,6 @@
 -- `real::nearest` meets its contract: the three ways to round. Assumes nothing.
-use Rattle.std.proofs.Common.{sym, ◌∙◌, mod-lt, le_antisymm, div-le_self, add-one, arith, rules}
+use Rattle.std.proofs.Common.{sym, ◌∙◌, mod-lt, le_antisymm, div-le_self, add-one, arith}
 use Rattle.real.proofs.Pack.{near_lt, near_eq, near_gt}
-use borrow.Author.Rules.{rules}
 use Rattle.real.proofs.nearest.Goals as goal
 
 pub overflow_mul-r : goal.overflow_mul-r

@@ -1,7 +1,5 @@
 -- `real::nearest_ms` meets its contract. Assumes nothing.
-use Rattle.std.proofs.Common.{rules}
 use Rattle.real.proofs.Literals.{half}
-use borrow.Author.Rules.{rules}
 use Rattle.real.proofs.nearest_ms.Goals as goal
 
 pub returns : goal.returns

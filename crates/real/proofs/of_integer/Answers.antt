@@ -1,7 +1,6 @@
 -- `real::of_integer` meets its contract. Assumes nothing.
-use Rattle.std.proofs.Common.{w64, rules}
+use Rattle.std.proofs.Common.{w64}
 use mir.ValLaws.{to_z-of_z}
-use borrow.Author.Rules.{rules}
 use Rattle.real.proofs.of_integer.Goals as goal
 
 pub returns : goal.returns

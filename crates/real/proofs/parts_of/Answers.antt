@@ -1,13 +1,11 @@
 -- `real::parts_of` meets its contract: by the fields of the bit pattern. Assumes nothing.
-use Rattle.std.proofs.Common.{◌*◌, ◌/◌, ◌%◌, ◌^◌, ◌<◌, ◌≤◌, T, sym, subst, zero-le, le_antisymm, lit≤, rules}
+use Rattle.std.proofs.Common.{◌*◌, ◌/◌, ◌%◌, ◌^◌, ◌<◌, ◌≤◌, T, sym, subst, zero-le, le_antisymm, lit≤}
 use lib.Ieee.{binary64, fits, to_bits}
 use lib.Ieee.Positive.{num, den}
 use Rattle.real.proofs.Within.{Finite}
 use Rattle.real.proofs.Tests.{below_number, not_nan, is_finite_lem}
 use Rattle.real.proofs.Decode.{field_le, parts_normal, parts_small}
-use borrow.Author.Rules.{rules}
 use Rattle.real.proofs.parts_of.Goals as goal
-use Rattle.real.proofs.parts_of.Tie as tie
 use Rattle.real.proofs.parts_of.Lts as lts
 use Rattle.real.proofs.parts_of.Reads as reads
 

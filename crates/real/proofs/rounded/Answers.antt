@@ -1,8 +1,7 @@
 -- `real::rounded` meets its contract. Assumes nothing.
-use Rattle.std.proofs.Common.{w64, rules}
+use Rattle.std.proofs.Common.{w64}
 use mir.ValLaws.{to_z-of_z}
 use Rattle.real.proofs.Literals.{nil, half}
-use borrow.Author.Rules.{rules}
 use Rattle.real.proofs.rounded.Goals as goal
 
 pub returns-then-x : goal.returns-then-x

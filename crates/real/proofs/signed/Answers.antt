@@ -1,8 +1,7 @@
 -- `real::signed` meets its contract. Assumes nothing.
-use Rattle.std.proofs.Common.{◌≡◌, ℕ, suc, ◌-◌, ◌^◌, ◌<◌, pos, negsuc, sym, ap, ◌∙◌, arith, w64, to_z, rules}
+use Rattle.std.proofs.Common.{◌≡◌, ℕ, suc, ◌-◌, ◌^◌, ◌<◌, pos, negsuc, sym, ap, ◌∙◌, arith, w64, to_z}
 use mir.ValLaws.{to_z-of_z}
 use Rattle.real.proofs.Signs.{minus_pos, minus_neg, flip_pos}
-use borrow.Author.Rules.{rules}
 use Rattle.real.proofs.signed.Goals as goal
 
 -- what the machine reads back

@@ -1,8 +1,7 @@
 -- `real::thousandths` meets its contract. Assumes nothing.
-use Rattle.std.proofs.Common.{ℕ, ◌*◌, ◌^◌, ◌<◌, ◌≤◌, sym, ap, ◌∙◌, subst, le_of_suc-le-suc, arith, pow_pos, pow_mono, rules}
+use Rattle.std.proofs.Common.{ℕ, ◌*◌, ◌^◌, ◌<◌, ◌≤◌, sym, ap, ◌∙◌, subst, le_of_suc-le-suc, arith, pow_pos, pow_mono}
 use lib.Ieee.Nearest.{closest}
 use Rattle.real.proofs.Fixed.{decimals_of, one_shifted, to_none}
-use borrow.Author.Rules.{rules}
 use Rattle.real.proofs.thousandths.Goals as goal
 
 pub nearest-requires : goal.nearest-requires

@@ -1,12 +1,11 @@
 -- `real::unix_real` meets its contract: an integer below 0 is its size, negated. Assumes nothing.
-use Rattle.std.proofs.Common.{◌≡◌, ℕ, suc, ◌-◌, ◌<◌, pos, negsuc, ap, ◌∙◌, arith, rules}
+use Rattle.std.proofs.Common.{◌≡◌, ℕ, suc, ◌-◌, ◌<◌, pos, negsuc, ap, ◌∙◌, arith}
 use lib.Ieee.{binary64, of_int, neg}
 use Rattle.rules.specs.Floats.{number}
 use Rattle.rules.specs.Writing.{unix_real}
 use Rattle.real.proofs.Literals.{thousand}
 use Rattle.real.proofs.Sign.{number_neg}
 use Rattle.real.proofs.Signs.{minus_pos, minus_neg}
-use borrow.Author.Rules.{rules}
 use Rattle.real.proofs.unix_real.Goals as goal
 
 pub returns-then-ms-ge-UNIX_EPOCH : goal.returns-then-ms-ge-UNIX_EPOCH

@@ -1,9 +1,8 @@
 -- `real::unix_seconds` meets its contract. Assumes nothing.
-use Rattle.std.proofs.Common.{◌≡◌, ℤ, pos, ◌-ℤ◌, ap, ◌∙◌, w64, to_z, of_z, rules}
+use Rattle.std.proofs.Common.{◌≡◌, ℤ, pos, ◌-ℤ◌, ap, ◌∙◌, w64, to_z, of_z}
 use mir.ValLaws.{to_z-of_z}
 use Rattle.rules.specs.Writing.{floor_div, unix_seconds}
 use Rattle.real.proofs.Signs.{floor_epoch, epoch_fits}
-use borrow.Author.Rules.{rules}
 use Rattle.real.proofs.unix_seconds.Goals as goal
 use Rattle.real.proofs.unix_seconds.Tie as tie
 use Rattle.real.proofs.unix_seconds.Lts as lts

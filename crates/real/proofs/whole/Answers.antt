@@ -1,8 +1,7 @@
 -- `real::whole` meets its contract: the cast where it fits, and the ends of the range past it. Assumes nothing.
-use Rattle.std.proofs.Common.{T, sym, subst, rules}
+use Rattle.std.proofs.Common.{T, sym, subst}
 use lib.Ieee.{of_bits, neg}
 use Rattle.real.proofs.Ends.{over_unsigned, under_unsigned}
-use borrow.Author.Rules.{rules}
 use Rattle.real.proofs.whole.Goals as goal
 
 pub truncating_f64_to_u64-requires : goal.truncating_f64_to_u64-requires

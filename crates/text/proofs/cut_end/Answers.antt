@@ -1,12 +1,7 @@
 -- `text::cut_end` meets its contract. The loop's invariant: what is trimmed of the end of the text is what is trimmed of the part up to here.
 -- Assumes nothing.
-use Prim.Native.Nat.{◌-◌, ◌≤◌}
-use mathlib.Core.Path.{◌≡◌, sym, ◌∙◌}
+use mathlib.Core.Path.{sym, ◌∙◌}
 use native.Mathlib.Omega.{arith}
-use lib.ListN.{length, drop}
-use borrow.Author.Tests.{not-true, not-false}
-use Rattle.rules.specs.Basics.{trim_end}
-use Rattle.text.specs.Places.{part, passes}
 use Rattle.text.proofs.Runs.{part_all, cut_on, cut_stop, cut_none}
 use borrow.Author.Rules.{rules}
 use Rattle.text.proofs.cut_end.Goals as goal

@@ -5,7 +5,6 @@ use native.Mathlib.Omega.{arith}
 use borrow.Author.Tests.{le-leb}
 use Rattle.text.proofs.Digits.{digits_other, four_other, four_half, four_got, digits_got}
 use Rattle.text.proofs.Reading.{read_of, told_of}
-use borrow.Author.Rules.{rules}
 use Rattle.text.proofs.four_at.Goals as goal
 
 pub returns-in_default : goal.returns-in_default

@@ -1,7 +1,6 @@
 -- `text::has` meets its contract. Assumes nothing.
 use mathlib.Core.Path.{sym}
 use Rattle.text.proofs.Reading.{stands_past, stands_at}
-use borrow.Author.Rules.{rules}
 use Rattle.text.proofs.has.Goals as goal
 
 pub returns-then-s-at : goal.returns-then-s-at

@@ -1,15 +1,8 @@
 -- `text::is_ascii` meets its contract. The loop's invariant: the answer is that of the bytes from here on, where no byte so far was above 127.
 -- Assumes nothing.
-use Prim.Native.Nat.{◌-◌}
-use mathlib.Core.Bool.{not, ◌&&◌}
-use mathlib.Core.Logic.{⊎_elim}
-use mathlib.Core.Path.{◌≡◌, refl, sym}
-use lib.Dec.{leb}
-use lib.ListN.{length, drop}
+use mathlib.Core.Path.{refl, sym}
 use borrow.Author.Tests.{le-leb, lt-leb}
-use Rattle.rules.specs.Basics.{every}
 use Rattle.text.proofs.Runs.{flag_set, flag_on, flag_past}
-use borrow.Author.Rules.{rules}
 use Rattle.text.proofs.is_ascii.Goals as goal
 use Rattle.text.proofs.is_ascii.Goals.{then-s-i-gt127, else-s-i-gt127}
 

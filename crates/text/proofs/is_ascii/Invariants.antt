@@ -2,13 +2,10 @@
 -- Assumes nothing.
 use Prim.Native.Nat.{◌-◌}
 use mathlib.Core.Bool.{not, ◌&&◌}
-use mathlib.Core.Logic.{⊎_elim}
-use mathlib.Core.Path.{◌≡◌, refl, sym}
+use mathlib.Core.Path.{◌≡◌}
 use lib.Dec.{leb}
 use lib.ListN.{length, drop}
-use borrow.Author.Tests.{le-leb, lt-leb}
 use Rattle.rules.specs.Basics.{every}
-use Rattle.text.proofs.Runs.{flag_set, flag_on, flag_past}
 use Rattle.text.proofs.is_ascii.Given as goal
 
 abbrev pub invariant-loop-i : goal.invariant-loop-i

@@ -1,6 +1,5 @@
 -- `text::is_gap` meets its contract. Assumes nothing.
 use Rattle.text.proofs.Tests.{eqb_flip}
-use borrow.Author.Rules.{rules}
 use Rattle.text.proofs.is_gap.Goals as goal
 
 pub returns-then-is_space : goal.returns-then-is_space

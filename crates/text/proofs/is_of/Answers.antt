@@ -1,5 +1,4 @@
 -- `text::is_of` meets its contract. Assumes nothing.
-use borrow.Author.Rules.{rules}
 use Rattle.text.proofs.is_of.Goals as goal
 
 pub returns-in-Space : goal.returns-in-Space

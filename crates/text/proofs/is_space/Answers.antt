@@ -2,7 +2,6 @@
 use mathlib.Core.Path.{refl, sym}
 use native.Mathlib.Omega.{arith}
 use Rattle.text.proofs.Bytes.{not_space, space_two}
-use borrow.Author.Rules.{rules}
 use Rattle.text.proofs.is_space.Goals as goal
 
 pub returns-in_default : goal.returns-in_default

@@ -1,5 +1,4 @@
 -- `text::is_wide` meets its contract. Assumes nothing.
-use borrow.Author.Rules.{rules}
 use Rattle.text.proofs.is_wide.Goals as goal
 
 pub returns-then-is_space : goal.returns-then-is_space

@@ -1,7 +1,6 @@
 -- `text::is_word` meets its contract. Assumes nothing.
 use mathlib.Core.Path.{sym, ◌∙◌}
 use Rattle.text.proofs.Words.{word_length, leads_all}
-use borrow.Author.Rules.{rules}
 use Rattle.text.proofs.is_word.Goals as goal
 
 pub returns-then-s-w : goal.returns-then-s-w

@@ -1,6 +1,5 @@
 -- `text::limit` meets its contract. Assumes nothing.
 use borrow.Author.Tests.{le-leb, lt-leb}
-use borrow.Author.Rules.{rules}
 use Rattle.text.proofs.limit.Goals as goal
 
 pub returns-then-v-lo : goal.returns-then-v-lo

@@ -1,8 +1,6 @@
 -- `text::lower` meets its contract. Assumes nothing.
-use mathlib.Core.Logic.{⊎_elim}
 use native.Mathlib.Omega.{arith}
-use borrow.Author.Tests.{le-leb, lt-leb, leb-true}
-use borrow.Author.Rules.{rules}
+use borrow.Author.Tests.{le-leb, leb-true}
 use Rattle.text.proofs.lower.Goals as goal
 
 pub overflow_add-result : goal.overflow_add-result

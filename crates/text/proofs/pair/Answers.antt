@@ -2,10 +2,8 @@
 use Prim.Native.Nat.{◌+◌}
 use mathlib.Core.Path.{sym, ◌∙◌}
 use native.Mathlib.Omega.{arith}
-use borrow.Author.Tests.{not-true, not-false}
 use Rattle.text.proofs.Bytes.{digit_bounds}
 use Rattle.text.proofs.Digits.{digit_stop, digit_on, two_at}
-use borrow.Author.Rules.{rules}
 use Rattle.text.proofs.pair.Goals as goal
 
 pub returns-then-not-is_digit : goal.returns-then-not-is_digit

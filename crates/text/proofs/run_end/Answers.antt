@@ -1,11 +1,6 @@
 -- `text::run_end` meets its contract. The loop's invariant: the run ends where the run that begins here ends. Assumes nothing.
-use Prim.Native.Nat.{◌-◌}
-use mathlib.Core.Path.{◌≡◌, refl, sym, ◌∙◌}
-use lib.ListN.{length}
-use borrow.Author.Tests.{not-true, not-false}
-use Rattle.text.specs.Places.{passes, end_at}
+use mathlib.Core.Path.{refl, sym, ◌∙◌}
 use Rattle.text.proofs.Runs.{end_on, end_stop, end_past, passed}
-use borrow.Author.Rules.{rules}
 use Rattle.text.proofs.run_end.Goals as goal
 
 pub loop-i-init : goal.loop-i-init

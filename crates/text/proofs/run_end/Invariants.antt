@@ -1,10 +1,8 @@
 -- `text::run_end` meets its contract. The loop's invariant: the run ends where the run that begins here ends. Assumes nothing.
 use Prim.Native.Nat.{◌-◌}
-use mathlib.Core.Path.{◌≡◌, refl, sym, ◌∙◌}
+use mathlib.Core.Path.{◌≡◌}
 use lib.ListN.{length}
-use borrow.Author.Tests.{not-true, not-false}
 use Rattle.text.specs.Places.{passes, end_at}
-use Rattle.text.proofs.Runs.{end_on, end_stop, end_past, passed}
 use Rattle.text.proofs.run_end.Given as goal
 
 abbrev pub invariant-loop-i : goal.invariant-loop-i

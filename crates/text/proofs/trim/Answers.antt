@@ -2,7 +2,6 @@
 use mathlib.Core.Path.{ap, ◌∙◌}
 use Rattle.rules.specs.Basics.{trim_end, trim}
 use Rattle.text.specs.Places.{passes}
-use borrow.Author.Rules.{rules}
 use Rattle.text.proofs.trim.Goals as goal
 
 pub returns : goal.returns

@@ -2,7 +2,6 @@
 use mathlib.Core.Path.{sym}
 use Rattle.text.proofs.Digits.{digits_other, limited_reads}
 use Rattle.text.proofs.Reading.{read_of, told_of}
-use borrow.Author.Rules.{rules}
 use Rattle.text.proofs.two_at.Goals as goal
 
 pub returns-in_default : goal.returns-in_default

@@ -3,7 +3,6 @@ use mathlib.Core.Path.{sym}
 use native.Mathlib.Omega.{arith}
 use lib.ListN.{drop, length-drop}
 use Rattle.text.proofs.Digits.{digits_short}
-use borrow.Author.Rules.{rules}
 use Rattle.text.proofs.two_digits.Goals as goal
 
 pub returns-then-left-lt2 : goal.returns-then-left-lt2

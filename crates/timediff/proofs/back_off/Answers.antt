@@ -1,10 +1,8 @@
 -- `timediff::back_off` meets its contract. The measure says that at most two rounds are made after the first. Assumes nothing.
 use Prim.Native.Nat.{◌+◌, ◌-◌, ◌≤◌}
 use native.Mathlib.Omega.{arith}
-use borrow.Author.Tests.{not-true, not-false}
 use Rattle.timediff.proofs.Rounds.{Begun, Round, month_is, start_at_lem, first_round, movable, countable, again, ends}
 use Rattle.timediff.proofs.Shifts.{ordered}
-use borrow.Author.Rules.{rules}
 use Rattle.timediff.proofs.back_off.Goals as goal
 use Rattle.timediff.proofs.back_off.Tie as tie
 use Rattle.timediff.proofs.back_off.Lts as lts

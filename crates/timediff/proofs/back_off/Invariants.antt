@@ -1,9 +1,6 @@
 -- `timediff::back_off` meets its contract. The measure says that at most two rounds are made after the first. Assumes nothing.
-use Prim.Native.Nat.{◌+◌, ◌-◌, ◌≤◌}
-use native.Mathlib.Omega.{arith}
-use borrow.Author.Tests.{not-true, not-false}
-use Rattle.timediff.proofs.Rounds.{Begun, Round, month_is, start_at_lem, first_round, movable, countable, again, ends}
-use Rattle.timediff.proofs.Shifts.{ordered}
+use Prim.Native.Nat.{◌+◌, ◌-◌}
+use Rattle.timediff.proofs.Rounds.{Begun, Round}
 use Rattle.timediff.proofs.back_off.Given as goal
 
 abbrev pub invariant-loop-date : goal.invariant-loop-date

@@ -2,7 +2,6 @@
 use Prim.Native.Nat.{◌≤◌, ◌<◌}
 use native.Mathlib.Omega.{arith}
 use Rattle.timediff.proofs.Answer.{tells_plus, tells_minus}
-use borrow.Author.Rules.{rules}
 use Rattle.timediff.proofs.difference.Goals as goal
 
 pub returns-then-b-a : goal.returns-then-b-a

@@ -1,5 +1,4 @@
 -- `timediff::is_past` meets its contract. Assumes nothing.
-use borrow.Author.Rules.{rules}
 use Rattle.timediff.proofs.is_past.Goals as goal
 
 pub returns-then-plus : goal.returns-then-plus

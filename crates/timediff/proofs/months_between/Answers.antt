@@ -1,7 +1,6 @@
 -- `timediff::months_between` meets its contract. Assumes nothing.
 use mathlib.Core.Bool.{true, false}
 use Rattle.timediff.specs.Spans.{Toward}
-use borrow.Author.Rules.{rules}
 use Rattle.timediff.proofs.months_between.Goals as goal
 
 pub overflow_sub-result : goal.overflow_sub-result

@@ -1,5 +1,4 @@
 -- `timediff::moved` meets its contract. Assumes nothing.
-use borrow.Author.Rules.{rules}
 use Rattle.timediff.proofs.moved.Goals as goal
 
 pub returns-then-plus : goal.returns-then-plus

@@ -1,11 +1,10 @@
 -- `timediff::put_months` meets its contract. Assumes nothing.
 use Prim.Native.Nat.{ℕ}
 use mathlib.Core.Path.{◌≡◌, ap}
-use mathlib.Core.List.{List, [], ◌∷◌}
+use mathlib.Core.List.{[], ◌∷◌}
 use native.Mathlib.Omega.{arith}
 use Rattle.digits.proofs.Buffer.{room_first, room_then, laid_as, laid_then}
 use Rattle.timediff.specs.Spans.{sign_byte}
-use borrow.Author.Rules.{rules}
 use Rattle.timediff.proofs.put_months.Goals as goal
 use Rattle.timediff.proofs.put_months.Tie as tie
 use Rattle.timediff.proofs.put_months.Lts as lts

@@ -1,7 +1,6 @@
 -- `timediff::put_rest` meets its contract: after each part there is room for what is left. Assumes nothing.
 use native.Mathlib.Omega.{arith}
 use Rattle.digits.proofs.Buffer.{room_first, room_then, laid_then}
-use borrow.Author.Rules.{rules}
 use Rattle.timediff.proofs.put_rest.Goals as goal
 
 pub put_next-before_hour-requires : goal.put_next-before_hour-requires

@@ -1,9 +1,7 @@
 -- `timediff::put_span` meets its contract. Assumes nothing.
 use mathlib.Core.Path.{sym}
-use native.Mathlib.Omega.{arith}
 use Rattle.digits.proofs.Buffer.{room_as, room_first, room_then, laid_as, laid_then}
 use Rattle.timediff.proofs.Text.{span_parts}
-use borrow.Author.Rules.{rules}
 use Rattle.timediff.proofs.put_span.Goals as goal
 
 pub put_months-days-requires : goal.put_months-days-requires

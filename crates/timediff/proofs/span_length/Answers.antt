@@ -2,7 +2,6 @@
 use mathlib.Core.Path.{sym}
 use native.Mathlib.Omega.{arith}
 use Rattle.timediff.proofs.Text.{span_24, span_25}
-use borrow.Author.Rules.{rules}
 use Rattle.timediff.proofs.span_length.Goals as goal
 
 pub returns-then-s-lt120000 : goal.returns-then-s-lt120000

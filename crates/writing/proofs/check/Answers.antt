@@ -1,5 +1,5 @@
 -- `writing::check` meets its contract. Assumes nothing.
-use Prim.Native.Nat.{ℕ, ◌-◌, ◌+◌, ◌<◌}
+use Prim.Native.Nat.{ℕ, ◌+◌, ◌<◌}
 use mathlib.Core.List.{List}
 use mathlib.Core.Path.{sym, subst}
 use native.Mathlib.Omega.{arith}
@@ -10,8 +10,7 @@ use Rattle.rules.specs.Writing.{letter}
 use Rattle.writing.specs.Formats.{CheckIs, most}
 use Rattle.writing.specs.declared.Checked.{Checked}
 use Rattle.writing.specs.declared.Checked.TheVariants.{Most, Refused}
-use Rattle.writing.proofs.Loops.{Bounded, bounded_start, bounded_plain, bounded_letter, bounded_refused, bounded_last, bounded_end}
-use borrow.Author.Rules.{rules}
+use Rattle.writing.proofs.Loops.{bounded_start, bounded_plain, bounded_letter, bounded_refused, bounded_last, bounded_end}
 use Rattle.writing.proofs.check.Goals as goal
 use Rattle.writing.proofs.check.Tie as tie
 use Rattle.writing.proofs.check.Lts as lts

@@ -2,7 +2,6 @@
 use Prim.Native.Nat.{ℕ, ◌≤◌, ◌<◌}
 use mathlib.Core.Path.{◌≡◌, refl, sym, ◌∙◌}
 use mathlib.Core.List.{List}
-use native.Mathlib.Omega.{arith}
 use lib.ListN.{length}
 use Rattle.rules.specs.Basics.{Read, got, refuse}
 use Rattle.rules.specs.Calendar.{instant}
@@ -15,7 +14,6 @@ use Rattle.writing.specs.Formats.{text_of, IsText, CheckIs, mosts, most_in, most
 use Rattle.writing.specs.declared.Checked.TheVariants.{Most}
 use Rattle.writing.proofs.Letters.{no_letter, a_letter, most_length}
 use Rattle.writing.proofs.Texts.{julian_early, julian_late}
-use borrow.Author.Rules.{rules}
 use Rattle.writing.proofs.check_letter.Goals as goal
 
 early : (p : Moment) → p.ms < instant 86400000000000 → letter 74 p ≡ refuse Refusal.Early

@@ -8,7 +8,6 @@ use Rattle.digits.proofs.Lengths.{length_year}
 use Rattle.writing.proofs.Lengths.{length_date}
 use Rattle.writing.proofs.Texts.{date_is}
 use Rattle.writing.proofs.Fields as field
-use borrow.Author.Rules.{rules}
 use Rattle.writing.proofs.date_length.Goals as goal
 use Rattle.writing.proofs.date_length.Tie as tie
 use Rattle.writing.proofs.date_length.Lts as lts

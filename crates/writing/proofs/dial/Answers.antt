@@ -1,7 +1,6 @@
 -- `writing::dial` meets its contract. Assumes nothing.
 use native.Mathlib.Omega.{arith}
 use borrow.Author.Tests.{eq-eqb, ne_eqb}
-use borrow.Author.Rules.{rules}
 use Rattle.writing.proofs.dial.Goals as goal
 
 pub returns-then-hour-eq0 : goal.returns-then-hour-eq0

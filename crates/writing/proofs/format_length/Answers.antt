@@ -1,10 +1,8 @@
 -- `writing::format_length` meets its contract. Assumes nothing.
-use Prim.Native.Nat.{◌-◌, ◌+◌, ◌<◌}
+use Prim.Native.Nat.{◌+◌, ◌<◌}
 use native.Mathlib.Omega.{arith}
 use lib.ListN.{length}
-use Rattle.moment.specs.Held.{held}
-use Rattle.writing.proofs.Loops.{Counted, counted_start, counted_plain, counted_two, counted_letter, counted_end}
-use borrow.Author.Rules.{rules}
+use Rattle.writing.proofs.Loops.{counted_start, counted_plain, counted_two, counted_letter, counted_end}
 use Rattle.writing.proofs.format_length.Goals as goal
 use Rattle.writing.proofs.format_length.Tie as tie
 use Rattle.writing.proofs.format_length.Lts as lts

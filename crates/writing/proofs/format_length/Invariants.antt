@@ -1,9 +1,8 @@
 -- `writing::format_length` meets its contract. Assumes nothing.
-use Prim.Native.Nat.{◌-◌, ◌+◌, ◌<◌}
-use native.Mathlib.Omega.{arith}
+use Prim.Native.Nat.{◌-◌}
 use lib.ListN.{length}
 use Rattle.moment.specs.Held.{held}
-use Rattle.writing.proofs.Loops.{Counted, counted_start, counted_plain, counted_two, counted_letter, counted_end}
+use Rattle.writing.proofs.Loops.{Counted}
 use Rattle.writing.proofs.format_length.Given as goal
 
 abbrev pub invariant-loop-i : goal.invariant-loop-i

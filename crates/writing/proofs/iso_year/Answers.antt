@@ -2,7 +2,6 @@
 use mathlib.Core.Path.{ap}
 use native.Mathlib.Omega.{arith}
 use Rattle.rules.specs.declared.Ymd.{Ymd}
-use borrow.Author.Rules.{rules}
 use Rattle.writing.proofs.iso_year.Goals as goal
 
 pub returns : goal.returns

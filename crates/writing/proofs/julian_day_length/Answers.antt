@@ -1,6 +1,5 @@
 -- `writing::julian_day_length` meets its contract. Assumes nothing.
 use Rattle.writing.proofs.Texts.{julian_early, julian_late}
-use borrow.Author.Rules.{rules}
 use Rattle.writing.proofs.julian_day_length.Goals as goal
 
 pub returns-then-ms-lt-EARLY : goal.returns-then-ms-lt-EARLY

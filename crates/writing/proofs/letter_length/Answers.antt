@@ -10,7 +10,6 @@ use Rattle.writing.specs.Formats.{text_of}
 use Rattle.writing.proofs.Lengths.{length_date}
 use Rattle.writing.proofs.Letters.{seventeen, exact_length}
 use Rattle.writing.proofs.Fields as field
-use borrow.Author.Rules.{rules}
 use Rattle.writing.proofs.letter_length.Goals as goal
 use Rattle.writing.proofs.letter_length.Tie as tie
 use Rattle.writing.proofs.letter_length.Lts as lts

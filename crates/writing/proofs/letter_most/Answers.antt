@@ -5,7 +5,6 @@ use mathlib.Core.List.{List, [], ◌∷◌}
 use lib.Dec.{T, eqb, leb, eqb→eq, lit≤}
 use Rattle.writing.specs.Formats.{most, most_in, mosts}
 use Rattle.writing.proofs.Cases.{NoneOf, most_none}
-use borrow.Author.Rules.{rules}
 use Rattle.writing.proofs.letter_most.Goals as goal
 
 one : (n : ℕ) {b k : ℕ} → T (eqb n (most k)) → T (leb n 17) → b ≡ k → (n ≡ most b) × (n ≤ 17)

@@ -2,7 +2,6 @@
 use mathlib.Core.Path.{sym}
 use Rattle.digits.proofs.Buffer.{room_as, room_first, room_then, laid_as, laid_then}
 use Rattle.writing.proofs.Texts.{clock_parts}
-use borrow.Author.Rules.{rules}
 use Rattle.writing.proofs.put_clock.Goals as goal
 
 pub put_two-before_minute-requires : goal.put_two-before_minute-requires

@@ -3,7 +3,6 @@ use mathlib.Core.Path.{sym}
 use native.Mathlib.Omega.{arith}
 use Rattle.digits.proofs.Buffer.{room_as, laid_as}
 use Rattle.writing.proofs.Texts.{date_is}
-use borrow.Author.Rules.{rules}
 use Rattle.writing.proofs.put_date.Goals as goal
 
 pub put_ymd-requires : goal.put_ymd-requires

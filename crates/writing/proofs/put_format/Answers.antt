@@ -1,16 +1,14 @@
 -- `writing::put_format` meets its contract. Assumes nothing.
-use Prim.Native.Nat.{◌-◌, ◌+◌, ◌<◌}
+use Prim.Native.Nat.{◌+◌, ◌<◌}
 use mathlib.Core.Path.{subst}
 use native.Mathlib.Omega.{arith}
 use lib.ListN.{length, get_or}
-use Rattle.digits.proofs.Buffer.{laid_length}
 use Rattle.moment.specs.Held.{held}
 use Rattle.rules.specs.Writing.{letter}
 use Rattle.writing.specs.Formats.{PutIs}
 use Rattle.writing.specs.declared.Put.{Put}
 use Rattle.writing.specs.declared.Put.TheVariants.{At}
-use Rattle.writing.proofs.Loops.{Written, written_start, room_plain, written_plain, written_two, room_letter, written_letter, written_refused, written_end}
-use borrow.Author.Rules.{rules}
+use Rattle.writing.proofs.Loops.{written_start, room_plain, written_plain, written_two, room_letter, written_letter, written_refused, written_end}
 use Rattle.writing.proofs.put_format.Goals as goal
 use Rattle.writing.proofs.put_format.Tie as tie
 use Rattle.writing.proofs.put_format.Lts as lts

@@ -2,7 +2,6 @@
 use mathlib.Core.Path.{sym}
 use Rattle.digits.proofs.Buffer.{room_as, laid_as}
 use Rattle.writing.proofs.Texts.{half_after, half_before}
-use borrow.Author.Rules.{rules}
 use Rattle.writing.proofs.put_half.Goals as goal
 
 pub put_pair-requires : goal.put_pair-requires

@@ -3,7 +3,6 @@ use mathlib.Core.Path.{refl, ap}
 use Rattle.digits.proofs.Buffer.{room_as}
 use Rattle.writing.specs.Formats.{text_of}
 use Rattle.writing.proofs.Texts.{julian_early, julian_late}
-use borrow.Author.Rules.{rules}
 use Rattle.writing.proofs.put_julian_day.Goals as goal
 
 pub returns-then-ms-lt-EARLY : goal.returns-then-ms-lt-EARLY

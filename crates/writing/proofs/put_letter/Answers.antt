@@ -14,7 +14,6 @@ use Rattle.writing.specs.Texts.{week_of}
 use Rattle.writing.specs.declared.Put.{Put}
 use Rattle.writing.proofs.Cases.{writer_none}
 use Rattle.writing.proofs.Fields as field
-use borrow.Author.Rules.{rules}
 use Rattle.writing.proofs.put_letter.Goals as goal
 use Rattle.writing.proofs.put_letter.Tie as tie
 use Rattle.writing.proofs.put_letter.Lts as lts

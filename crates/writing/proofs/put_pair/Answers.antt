@@ -2,7 +2,6 @@
 use native.Mathlib.Omega.{arith}
 use lib.ListN.{length-set}
 use Rattle.digits.proofs.Buffer.{lay_two}
-use borrow.Author.Rules.{rules}
 use Rattle.writing.proofs.put_pair.Goals as goal
 
 pub bounds-buf-at-2 : goal.bounds-buf-at-2

@@ -7,7 +7,6 @@ use Rattle.moment.specs.Held.{held}
 use Rattle.digits.proofs.Buffer.{room_as, laid_as}
 use Rattle.writing.proofs.Texts.{time_decimals, time_whole}
 use Rattle.writing.proofs.Fields as field
-use borrow.Author.Rules.{rules}
 use Rattle.writing.proofs.put_time.Goals as goal
 use Rattle.writing.proofs.put_time.Tie as tie
 use Rattle.writing.proofs.put_time.Lts as lts

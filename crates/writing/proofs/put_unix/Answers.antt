@@ -2,7 +2,6 @@
 use mathlib.Core.Path.{sym}
 use Rattle.digits.proofs.Buffer.{room_as, laid_as}
 use Rattle.writing.proofs.Texts.{unix_decimals_lem, unix_whole}
-use borrow.Author.Rules.{rules}
 use Rattle.writing.proofs.put_unix.Goals as goal
 
 pub put_unix_decimals-requires : goal.put_unix_decimals-requires

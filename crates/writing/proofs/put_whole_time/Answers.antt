@@ -1,6 +1,5 @@
 -- `writing::put_whole_time` meets its contract. Assumes nothing.
 use Rattle.digits.proofs.Buffer.{room_first, room_then, laid_then}
-use borrow.Author.Rules.{rules}
 use Rattle.writing.proofs.put_whole_time.Goals as goal
 
 pub put_clock-colon-requires : goal.put_clock-colon-requires

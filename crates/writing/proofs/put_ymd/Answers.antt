@@ -2,7 +2,6 @@
 use mathlib.Core.Path.{sym}
 use Rattle.digits.proofs.Buffer.{room_as, room_first, room_then, laid_as, laid_then}
 use Rattle.writing.proofs.Texts.{date_parts}
-use borrow.Author.Rules.{rules}
 use Rattle.writing.proofs.put_ymd.Goals as goal
 
 pub put_year-before_month-requires : goal.put_year-before_month-requires

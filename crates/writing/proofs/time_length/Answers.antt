@@ -6,7 +6,6 @@ use Rattle.moment.specs.Held.{held}
 use Rattle.writing.proofs.Texts.{time_decimals, time_whole}
 use Rattle.writing.proofs.Lengths.{length_whole, length_decimal}
 use Rattle.writing.proofs.Fields as field
-use borrow.Author.Rules.{rules}
 use Rattle.writing.proofs.time_length.Goals as goal
 
 pub returns-then-p : goal.returns-then-p

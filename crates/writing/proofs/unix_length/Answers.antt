@@ -2,7 +2,6 @@
 use mathlib.Core.Path.{sym, ap, ◌∙◌}
 use lib.ListN.{length}
 use Rattle.writing.proofs.Texts.{unix_decimals_lem, unix_whole}
-use borrow.Author.Rules.{rules}
 use Rattle.writing.proofs.unix_length.Goals as goal
 
 pub returns-then-subsec : goal.returns-then-subsec

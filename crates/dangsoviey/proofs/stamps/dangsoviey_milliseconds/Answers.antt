@@ -7,7 +7,6 @@ use Rattle.rules.specs.Calls.{value_of}
 use Rattle.rules.specs.declared.Given.{Given}
 use Rattle.dangsoviey.specs.Milliseconds.{milliseconds}
 use Rattle.dangsoviey.proofs.Replies.{as_given, number_replied}
-use borrow.Author.Rules.{rules}
 use Rattle.dangsoviey.proofs.stamps.dangsoviey_milliseconds.Goals as goal
 
 pub returns : goal.returns

@@ -4,7 +4,6 @@ use mir.Syntax.{w64}
 use mir.ValLaws.{to_z-of_z}
 use Rattle.dangsoviey.specs.Milliseconds.{stamp}
 use Rattle.dangsoviey.proofs.Replies.{replied}
-use borrow.Author.Rules.{rules}
 use Rattle.dangsoviey.proofs.stamps.dangsoviey_stamp.Goals as goal
 
 pub returns : goal.returns

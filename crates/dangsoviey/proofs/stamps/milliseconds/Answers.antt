@@ -5,7 +5,6 @@ use mir.ValLaws.{to_z-of_z}
 use Rattle.datetime.specs.Opened.{Ready}
 use Rattle.datetime.proofs.Answers.{landed}
 use Rattle.dangsoviey.proofs.Milliseconds.{milliseconds_next, milliseconds_refused}
-use borrow.Author.Rules.{rules}
 use Rattle.dangsoviey.proofs.stamps.milliseconds.Goals as goal
 
 pub since_epoch-requires : goal.since_epoch-requires

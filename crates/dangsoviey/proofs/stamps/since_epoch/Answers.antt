@@ -7,7 +7,6 @@ use mir.Syntax.{w64}
 use mir.Val.{to_z}
 use mir.ValLaws.{to_z-of_z}
 use Rattle.real.proofs.Signs.{minus_pos, minus_neg, flip_pos}
-use borrow.Author.Rules.{rules}
 use Rattle.dangsoviey.proofs.stamps.since_epoch.Goals as goal
 
 -- what the machine reads back

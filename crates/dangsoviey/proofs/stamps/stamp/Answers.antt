@@ -9,7 +9,6 @@ use mir.ValLaws.{to_z-of_z}
 use Rattle.calendar.specs.Ranges.{InRange}
 use Rattle.dangsoviey.specs.Milliseconds.{instant_of, stamped}
 use Rattle.dangsoviey.proofs.Milliseconds.{stamp_early, stamp_late, stamp_range, gives_stamp, gives_none}
-use borrow.Author.Rules.{rules}
 use Rattle.dangsoviey.proofs.stamps.stamp.Goals as goal
 use Rattle.dangsoviey.proofs.stamps.stamp.Tie as tie
 use Rattle.dangsoviey.proofs.stamps.stamp.Lts as lts

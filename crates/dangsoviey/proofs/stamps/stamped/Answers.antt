@@ -10,7 +10,6 @@ use Rattle.moment.specs.Held.{held}
 use Rattle.moment.specs.Steps.{length_on}
 use Rattle.moment.proofs.Bounds.{after_more}
 use Rattle.dangsoviey.proofs.Milliseconds.{stamp_near, fresh_is, stamped_is}
-use borrow.Author.Rules.{rules}
 use Rattle.dangsoviey.proofs.stamps.stamped.Goals as goal
 
 pub by_length-requires : goal.by_length-requires

@@ -7,7 +7,6 @@ use Rattle.moment.specs.Ranges.{After, Lands, read_of}
 use Rattle.moment.specs.declared.Step.{Step}
 use Rattle.datetime.proofs.Faults.{clock_good}
 use Rattle.datetime.proofs.Instants.{present_read, present_short, instants_are, no_second, no_first}
-use borrow.Author.Rules.{rules}
 use Rattle.datetime.proofs.calls.both.Goals as goal
 use Rattle.datetime.proofs.calls.both.Tie as tie
 use Rattle.datetime.proofs.calls.both.Lts as lts

@@ -1,11 +1,9 @@
 -- `datetime::calls::both_ranged` meets its contract. Assumes nothing.
 use mathlib.Core.Bool.{true}
 use mathlib.Core.Path.{◌≡◌, sym, ◌∙◌}
-use borrow.Author.Tests.{not-true, not-false}
 use Rattle.moment.specs.Held.{held}
 use Rattle.moment.proofs.Modifiers.{passes, range_lands}
 use Rattle.datetime.proofs.Instants.{both_are, second_out, first_out}
-use borrow.Author.Rules.{rules}
 use Rattle.datetime.proofs.calls.both_ranged.Goals as goal
 use Rattle.datetime.proofs.calls.both_ranged.Tie as tie
 use Rattle.datetime.proofs.calls.both_ranged.Lts as lts

@@ -1,7 +1,6 @@
 -- `datetime::calls::fault_of_text` meets its contract. Assumes nothing.
 use mathlib.Core.Path.{sym, ◌∙◌}
 use Rattle.datetime.proofs.Faults.{too_long, with_high, plain}
-use borrow.Author.Rules.{rules}
 use Rattle.datetime.proofs.calls.fault_of_text.Goals as goal
 
 pub returns-then-s-most : goal.returns-then-s-most

@@ -2,7 +2,6 @@
 use mathlib.Core.Path.{◌∙◌}
 use Rattle.rules.specs.declared.Given.{Given}
 use Rattle.datetime.proofs.Faults.{of_given, no_bytes}
-use borrow.Author.Rules.{rules}
 use Rattle.datetime.proofs.calls.fault_of_value.Goals as goal
 
 pub returns-in-Bytes : goal.returns-in-Bytes

@@ -1,11 +1,10 @@
 -- `datetime::calls::instants` meets its contract. Assumes nothing.
 use mathlib.Core.Path.{◌≡◌, sym, ap, ap₂, ◌∙◌}
-use Rattle.rules.specs.Calls.{Call, timediff, Value, value_of}
+use Rattle.rules.specs.Calls.{timediff, Value, value_of}
 use Rattle.modifiers.specs.declared.buffer.Fault.{Fault}
 use Rattle.datetime.specs.Faults.{either_of, gated}
 use Rattle.datetime.specs.Instants as rule
 use Rattle.datetime.proofs.Faults.{of_timediff, gate_of, Passed, passed, stopped, let_through, both_short}
-use borrow.Author.Rules.{rules}
 use Rattle.datetime.proofs.calls.instants.Goals as goal
 use Rattle.datetime.proofs.calls.instants.Tie as tie
 use Rattle.datetime.proofs.calls.instants.Lts as lts

@@ -7,9 +7,7 @@ use mir.Syntax.{w64}
 use mir.Val.{to_z, of_z}
 use mir.ValLaws.{to_z-of_z}
 use Rattle.datetime.proofs.Faults.{clock_bad, offset_tells, far_east, else_west}
-use borrow.Author.Rules.{rules}
 use Rattle.datetime.proofs.calls.is_bad.Goals as goal
-use Rattle.datetime.proofs.calls.is_bad.Tie as tie
 use Rattle.datetime.proofs.calls.is_bad.Lts as lts
 use Rattle.datetime.proofs.calls.is_bad.Reads as reads
 

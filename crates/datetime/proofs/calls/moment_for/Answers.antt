@@ -2,13 +2,12 @@
 use mathlib.Core.Path.{◌≡◌, sym, ap, ap₂, ◌∙◌}
 use borrow.Author.Tests.{ltb-false}
 use lib.ListN.{length}
-use Rattle.rules.specs.Calls.{Call, strftime, Value, value_of}
+use Rattle.rules.specs.Calls.{Call, strftime, value_of}
 use Rattle.rules.specs.Functions.{moment_of}
 use Rattle.modifiers.specs.declared.buffer.Fault.{Fault}
 use Rattle.datetime.specs.Faults.{either_of, gated}
 use Rattle.datetime.proofs.Faults.{of_strftime, gate_of, Passed, passed, stopped, let_through, format_short}
 use Rattle.datetime.proofs.Moments.{lands_all}
-use borrow.Author.Rules.{rules}
 use Rattle.datetime.proofs.calls.moment_for.Goals as goal
 use Rattle.datetime.proofs.calls.moment_for.Tie as tie
 use Rattle.datetime.proofs.calls.moment_for.Lts as lts

@@ -3,7 +3,6 @@ use Rattle.rules.specs.Calls.{value_of}
 use Rattle.rules.specs.Functions.{moment_of}
 use Rattle.rules.specs.declared.Function.{Function}
 use Rattle.datetime.proofs.Faults.{no_format}
-use borrow.Author.Rules.{rules}
 use Rattle.datetime.proofs.calls.moment_of.Goals as goal
 
 pub returns : goal.returns

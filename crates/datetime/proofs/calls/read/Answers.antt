@@ -7,18 +7,15 @@ use lib.IntN.{ℤ, nat_abs}
 use lib.ListN.{length}
 use mir.Syntax.{w64}
 use mir.Val.{to_z, of_z}
-use Rattle.rules.specs.Basics.{got, refuse}
 use Rattle.rules.specs.Calls.{value_of, bytes_of, modifiers}
 use Rattle.rules.specs.Modifiers as rules
 use Rattle.rules.specs.Moments as rule
-use Rattle.rules.specs.Reading.{time_value}
 use Rattle.moment.specs.Held.{held}
 use Rattle.moment.specs.declared.Step.{Step}
 use Rattle.moment.specs.Ranges.{After, most_before, Lands, read_of}
 use Rattle.moment.proofs.Ways.{back}
 use Rattle.datetime.proofs.Faults.{clock_good, offset_good}
 use Rattle.datetime.proofs.Moments.{moment_is, no_modifier, no_value, lands_ready}
-use borrow.Author.Rules.{rules}
 use Rattle.datetime.proofs.calls.read.Goals as goal
 use Rattle.datetime.proofs.calls.read.Tie as tie
 use Rattle.datetime.proofs.calls.read.Lts as lts

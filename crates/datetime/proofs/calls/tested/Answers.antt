@@ -6,7 +6,6 @@ use Rattle.rules.specs.declared.Refusal.{Refusal}
 use Rattle.modifiers.specs.declared.buffer.Fault.{Fault}
 use Rattle.datetime.specs.declared.calls.Gate.TheVariants.{Open, Refused}
 use Rattle.datetime.specs.Faults.{gated}
-use borrow.Author.Rules.{rules}
 use Rattle.datetime.proofs.calls.tested.Goals as goal
 
 pub returns-then-is_bad : goal.returns-then-is_bad

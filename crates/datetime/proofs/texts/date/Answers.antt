@@ -5,7 +5,6 @@ use Rattle.digits.specs.Writers.{Room}
 use Rattle.moment.specs.Held.{held}
 use Rattle.datetime.proofs.Given.{gives_text, gives_length}
 use Rattle.datetime.proofs.Answers.{printable}
-use borrow.Author.Rules.{rules}
 use Rattle.datetime.proofs.texts.date.Goals as goal
 use Rattle.datetime.proofs.texts.date.Tie as tie
 use Rattle.datetime.proofs.texts.date.Lts as lts

@@ -8,7 +8,6 @@ use Rattle.digits.proofs.Buffer.{room_first, room_then, laid_then}
 use Rattle.moment.specs.Held.{held}
 use Rattle.datetime.proofs.Given.{gives_text, gives_length, parted_length}
 use Rattle.datetime.proofs.Answers.{printable}
-use borrow.Author.Rules.{rules}
 use Rattle.datetime.proofs.texts.datetime.Goals as goal
 use Rattle.datetime.proofs.texts.datetime.Tie as tie
 use Rattle.datetime.proofs.texts.datetime.Lts as lts

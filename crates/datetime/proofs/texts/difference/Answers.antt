@@ -6,7 +6,6 @@ use Rattle.digits.specs.Writers.{Room}
 use Rattle.digits.proofs.Buffer.{room_as, laid_as}
 use Rattle.timediff.specs.Spans.{span_text}
 use Rattle.datetime.proofs.Given.{gives_text, gives_length}
-use borrow.Author.Rules.{rules}
 use Rattle.datetime.proofs.texts.difference.Goals as goal
 use Rattle.datetime.proofs.texts.difference.Tie as tie
 use Rattle.datetime.proofs.texts.difference.Lts as lts

@@ -4,7 +4,6 @@ use Rattle.rules.specs.Writing as rule
 use Rattle.moment.specs.Held.{held}
 use Rattle.datetime.proofs.Given.{Passes, check_passes, check_gives, format_length}
 use Rattle.datetime.proofs.Answers.{printable}
-use borrow.Author.Rules.{rules}
 use Rattle.datetime.proofs.texts.formatted.Goals as goal
 use Rattle.datetime.proofs.texts.formatted.Tie as tie
 use Rattle.datetime.proofs.texts.formatted.Lts as lts

@@ -1,7 +1,6 @@
 -- `datetime::texts::put` meets its contract. Assumes nothing.
 use Rattle.datetime.proofs.Given.{put_gives, put_refuses}
 use Rattle.datetime.proofs.Answers.{printable}
-use borrow.Author.Rules.{rules}
 use Rattle.datetime.proofs.texts.put.Goals as goal
 
 pub put_format-requires : goal.put_format-requires

@@ -3,7 +3,6 @@ use mathlib.Core.Path.{◌∙◌}
 use mir.Syntax.{w64}
 use mir.ValLaws.{to_z-of_z}
 use Rattle.datetime.proofs.Answers.{unix_real_is, unix_seconds_is}
-use borrow.Author.Rules.{rules}
 use Rattle.datetime.proofs.texts.unix.Goals as goal
 
 pub returns-then-p : goal.returns-then-p

@@ -9,7 +9,6 @@ use lib.Pow.{pow_pos}
 use lib.Ieee.{binary64, of_int, in_float, round}
 use Rattle.real.proofs.Near.{div_at}
 use Rattle.real.proofs.Millis.{of_int-val}
-use borrow.Author.Rules.{rules}
 use Rattle.decimal.proofs.nearest.below.Goals as goal
 
 pub int_to_float-result : goal.int_to_float-result

@@ -6,7 +6,6 @@ use lib.Dec.{lit≤}
 use Rattle.decimal.proofs.nearest.Powers.{five_le}
 use Rattle.decimal.specs.Steps.{Divided}
 use Rattle.decimal.proofs.nearest.Joined.{below_is}
-use borrow.Author.Rules.{rules}
 use Rattle.decimal.proofs.nearest.divided.Goals as goal
 
 pub quotient-q-requires : goal.quotient-q-requires

@@ -1,10 +1,9 @@
 -- `decimal::nearest::fives` meets its contract. Assumes nothing.
-use mathlib.Core.Path.{◌≡◌, refl, sym, ap, ◌∙◌}
-use Prim.Native.Nat.{ℕ, ◌-◌, ◌*◌, ◌^◌, ◌≤◌}
+use mathlib.Core.Path.{refl, sym, ap, ◌∙◌}
+use Prim.Native.Nat.{ℕ, ◌*◌, ◌^◌}
 use native.Mathlib.Nat.{le_antisymm}
 use native.Mathlib.Omega.{arith}
 use Rattle.decimal.proofs.nearest.Powers.{five_step, five_le}
-use borrow.Author.Rules.{rules}
 use Rattle.decimal.proofs.nearest.fives.Goals as goal
 
 pub loop-i-init : goal.loop-i-init

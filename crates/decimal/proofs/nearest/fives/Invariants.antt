@@ -1,9 +1,6 @@
 -- `decimal::nearest::fives` meets its contract. Assumes nothing.
-use mathlib.Core.Path.{◌≡◌, refl, sym, ap, ◌∙◌}
-use Prim.Native.Nat.{ℕ, ◌-◌, ◌*◌, ◌^◌, ◌≤◌}
-use native.Mathlib.Nat.{le_antisymm}
-use native.Mathlib.Omega.{arith}
-use Rattle.decimal.proofs.nearest.Powers.{five_step, five_le}
+use mathlib.Core.Path.{◌≡◌}
+use Prim.Native.Nat.{◌-◌, ◌^◌, ◌≤◌}
 use Rattle.decimal.proofs.nearest.fives.Given as goal
 
 abbrev pub invariant-loop-i : goal.invariant-loop-i

@@ -2,7 +2,6 @@
 use mathlib.Core.Path.{◌≡◌, ap}
 use Prim.Native.Nat.{ℕ, ◌*◌, ◌^◌}
 use native.Mathlib.Nat.{le_of_suc-le-suc}
-use borrow.Author.Rules.{rules}
 use Rattle.decimal.proofs.nearest.lead.Goals as goal
 use Rattle.decimal.proofs.nearest.lead.Tie as tie
 use Rattle.decimal.proofs.nearest.lead.Lts as lts

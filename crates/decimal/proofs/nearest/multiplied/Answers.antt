@@ -5,7 +5,6 @@ use native.Mathlib.Nat.{one-le-pow, le_trans, le_of_eq, le-mul_of_pos_right}
 use lib.Dec.{lit≤}
 use Rattle.decimal.proofs.nearest.Powers.{five_le, high_lt}
 use Rattle.decimal.proofs.nearest.Joined.{above_is}
-use borrow.Author.Rules.{rules}
 use Rattle.decimal.proofs.nearest.multiplied.Goals as goal
 
 pub narrow-q-requires : goal.narrow-q-requires

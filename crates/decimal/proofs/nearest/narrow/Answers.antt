@@ -6,7 +6,6 @@ use native.Mathlib.Omega.{arith}
 use mathlib.Core.Logic.{inl, inr}
 use lib.Pow.{pow_pos}
 use Rattle.decimal.proofs.nearest.Powers.{narrowed}
-use borrow.Author.Rules.{rules}
 use Rattle.decimal.proofs.nearest.narrow.Goals as goal
 
 pub returns-then-high-eq0 : goal.returns-then-high-eq0

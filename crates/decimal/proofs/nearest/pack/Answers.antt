@@ -5,7 +5,6 @@ use native.Mathlib.Omega.{arith}
 use lib.Ieee.{of_bits, binary64}
 use Rattle.real.proofs.Pack.{near11, up11_le}
 use Rattle.decimal.proofs.nearest.Powers.{no_nan}
-use borrow.Author.Rules.{rules}
 use Rattle.decimal.proofs.nearest.pack.Goals as goal
 use Rattle.decimal.proofs.nearest.pack.Tie as tie
 use Rattle.decimal.proofs.nearest.pack.Lts as lts

@@ -3,9 +3,7 @@ use mathlib.Core.Path.{◌≡◌, sym, ap, ◌∙◌}
 use Prim.Native.Nat.{ℕ, ◌+◌, ◌*◌, ◌/◌, ◌%◌, ◌^◌, ◌≤◌, ◌<◌}
 use native.Mathlib.Omega.{arith}
 use Rattle.decimal.proofs.nearest.Powers.{halves, half_lt}
-use borrow.Author.Rules.{rules}
 use Rattle.decimal.proofs.nearest.product.Goals as goal
-use Rattle.decimal.proofs.nearest.product.Tie as tie
 use Rattle.decimal.proofs.nearest.product.Lts as lts
 use Rattle.decimal.proofs.nearest.product.Reads as reads
 

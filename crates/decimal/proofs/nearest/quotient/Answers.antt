@@ -1,11 +1,10 @@
 -- `decimal::nearest::quotient` meets its contract. Assumes nothing.
-use Prim.Native.Nat.{ℕ, ◌+◌, ◌-◌, ◌*◌, ◌/◌, ◌%◌, ◌^◌, ◌≤◌, ◌<◌, min, zero-le}
+use Prim.Native.Nat.{ℕ, ◌+◌, ◌*◌, ◌/◌, ◌%◌, ◌^◌, ◌≤◌, ◌<◌, min, zero-le}
 use native.Mathlib.Nat.{le_antisymm, le_of_suc-le-suc, lt_of_lt_of_le, lt_of_le_of_lt, mul-le-mul_left, mul-lt-mul_of_pos_right, min-le_left, min-le_right}
 use native.Mathlib.Omega.{arith}
 use lib.Dec.{ltb→lt, nltb→le}
 use lib.Pow.{pow_pos, pow_mono}
 use Rattle.decimal.proofs.nearest.Powers.{few_of, Dividing, division_begins, division_goes}
-use borrow.Author.Rules.{rules}
 use Rattle.decimal.proofs.nearest.quotient.Goals as goal
 use Rattle.decimal.proofs.nearest.quotient.Tie as tie
 use Rattle.decimal.proofs.nearest.quotient.Lts as lts

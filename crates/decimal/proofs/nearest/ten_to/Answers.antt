@@ -4,7 +4,6 @@ use Prim.Native.Nat.{ℕ, zero, suc, ◌≤◌, zero-le}
 use native.Mathlib.Nat.{le_antisymm}
 use lib.Arith.{lt_of_le-ne}
 use lib.Ieee.{of_bits}
-use borrow.Author.Rules.{rules}
 use Rattle.decimal.proofs.nearest.ten_to.Goals as goal
 
 -- k is none of the first n numbers

@@ -1,6 +1,5 @@
 -- `decimal::nearest::two_to` meets its contract. Assumes nothing.
 use Rattle.real.proofs.Fixed.{one_shifted}
-use borrow.Author.Rules.{rules}
 use Rattle.decimal.proofs.nearest.two_to.Goals as goal
 
 pub returns : goal.returns

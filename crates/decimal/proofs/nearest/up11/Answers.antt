@@ -2,7 +2,6 @@
 use Prim.Native.Nat.{◌%◌}
 use borrow.Author.Tests.{lt-ltb, le-ltb}
 use Rattle.real.proofs.Pack.{up11}
-use borrow.Author.Rules.{rules}
 use Rattle.decimal.proofs.nearest.up11.Goals as goal
 
 pub returns-then-rest-gt1024 : goal.returns-then-rest-gt1024

@@ -2,7 +2,6 @@
 use native.Mathlib.Omega.{arith}
 use lib.Count.{count_leading_zeros, leading_le, leading_top}
 use Rattle.decimal.proofs.nearest.Powers.{room}
-use borrow.Author.Rules.{rules}
 use Rattle.decimal.proofs.nearest.zeros.Goals as goal
 
 pub overflow_cast-result : goal.overflow_cast-result

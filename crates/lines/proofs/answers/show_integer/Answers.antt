@@ -10,7 +10,6 @@ use Rattle.rules.specs.Writing.{integer_text}
 use Rattle.digits.proofs.Buffer.{laid_as}
 use Rattle.digits.specs.Writers.{Room}
 use Rattle.datetime.proofs.Given.{gives_text, gives_length}
-use borrow.Author.Rules.{rules}
 use Rattle.lines.proofs.answers.show_integer.Goals as goal
 
 pub returns-then-out-size : goal.returns-then-out-size

@@ -6,7 +6,6 @@ use Rattle.rules.specs.Program.{shown, hex}
 use Rattle.digits.proofs.Hex.{length_hex}
 use Rattle.digits.specs.Writers.{Room}
 use Rattle.datetime.proofs.Given.{gives_text, gives_length}
-use borrow.Author.Rules.{rules}
 use Rattle.lines.proofs.answers.show_real.Goals as goal
 
 pub returns-then-out-lt16 : goal.returns-then-out-lt16

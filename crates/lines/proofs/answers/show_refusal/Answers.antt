@@ -1,7 +1,6 @@
 -- `lines::answers::show_refusal` meets its contract. Assumes nothing.
 use Rattle.rules.specs.Program.{shown}
 use Rattle.rules.specs.Writing.{wide, width, places}
-use borrow.Author.Rules.{rules}
 use Rattle.lines.proofs.answers.show_refusal.Goals as goal
 
 pub returns-in-Null : goal.returns-in-Null

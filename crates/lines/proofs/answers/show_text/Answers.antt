@@ -1,13 +1,10 @@
 -- `lines::answers::show_text` meets its contract. The loop's invariant: what is still to be laid completes the text. Assumes nothing.
-use Prim.Native.Nat.{◌-◌, ◌≤◌}
-use mathlib.Core.Path.{◌≡◌, refl, sym, ◌∙◌}
+use mathlib.Core.Path.{refl, sym, ◌∙◌}
 use native.Mathlib.Omega.{arith}
-use lib.ListN.{length, drop, length-set}
-use lib.Seq.{sets}
+use lib.ListN.{length-set}
 use Rattle.digits.specs.Writers.{Room}
 use Rattle.datetime.proofs.Given.{gives_text, gives_length}
 use Rattle.lines.proofs.Showing.{text_on, text_end}
-use borrow.Author.Rules.{rules}
 use Rattle.lines.proofs.answers.show_text.Goals as goal
 
 pub returns-then-out-s : goal.returns-then-out-s

@@ -1,12 +1,8 @@
 -- `lines::answers::show_text` meets its contract. The loop's invariant: what is still to be laid completes the text. Assumes nothing.
 use Prim.Native.Nat.{◌-◌, ◌≤◌}
-use mathlib.Core.Path.{◌≡◌, refl, sym, ◌∙◌}
-use native.Mathlib.Omega.{arith}
-use lib.ListN.{length, drop, length-set}
+use mathlib.Core.Path.{◌≡◌}
+use lib.ListN.{length, drop}
 use lib.Seq.{sets}
-use Rattle.digits.specs.Writers.{Room}
-use Rattle.datetime.proofs.Given.{gives_text, gives_length}
-use Rattle.lines.proofs.Showing.{text_on, text_end}
 use Rattle.lines.proofs.answers.show_text.Given as goal
 
 abbrev pub invariant-loop-i : goal.invariant-loop-i

@@ -2,11 +2,9 @@
 use mathlib.Core.Path.{sym, ◌∙◌}
 use native.Mathlib.Omega.{arith}
 use lib.Seq.{length-take-le}
-use borrow.Author.Tests.{not-true, not-false}
 use lib.ListN.{drop}
 use Rattle.lines.specs.Fields.{fields_after}
 use Rattle.lines.proofs.Asking.{none_comes, comes_as, timediff_lays, plain_few, line_none, line_call_lem}
-use borrow.Author.Rules.{rules}
 use Rattle.lines.proofs.calls.asked.Goals as goal
 
 pub returns-then-not-is_plain : goal.returns-then-not-is_plain

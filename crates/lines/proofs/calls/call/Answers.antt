@@ -1,6 +1,5 @@
 -- `lines::calls::call` meets its contract. Assumes nothing.
 use Rattle.lines.proofs.Outcomes.{julianday_gives, unixepoch_gives}
-use borrow.Author.Rules.{rules}
 use Rattle.lines.proofs.calls.call.Goals as goal
 
 pub returns-in-Date : goal.returns-in-Date

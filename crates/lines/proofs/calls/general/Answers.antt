@@ -6,7 +6,6 @@ use lib.Seq.{length-take-le}
 use Rattle.rules.specs.Program.{general_call}
 use Rattle.lines.proofs.Parts.{after_end}
 use Rattle.lines.proofs.Asking.{laid_inside, laid_are, none_comes, general_comes, next_field}
-use borrow.Author.Rules.{rules}
 use Rattle.lines.proofs.calls.general.Goals as goal
 
 pub returns-then-s-end : goal.returns-then-s-end

@@ -7,7 +7,6 @@ use Rattle.rules.specs.Program.{strftime_call}
 use Rattle.text.specs.Places.{part}
 use Rattle.lines.proofs.Parts.{after_end}
 use Rattle.lines.proofs.Asking.{laid_inside, laid_are, none_comes, strftime_comes, next_field}
-use borrow.Author.Rules.{rules}
 use Rattle.lines.proofs.calls.strftime.Goals as goal
 
 pub returns-then-s-end : goal.returns-then-s-end

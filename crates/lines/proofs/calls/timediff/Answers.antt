@@ -6,7 +6,6 @@ use Rattle.rules.specs.Program.{timediff_call}
 use Rattle.text.specs.Places.{part}
 use Rattle.lines.proofs.Parts.{after_end, after_tab}
 use Rattle.lines.proofs.Asking.{none_comes, timediff_gives, timediff_more, next_field}
-use borrow.Author.Rules.{rules}
 use Rattle.lines.proofs.calls.timediff.Goals as goal
 
 pub returns-then-s-end : goal.returns-then-s-end

@@ -3,7 +3,6 @@ use native.Mathlib.Omega.{arith}
 use Rattle.rules.specs.Modifiers.{signed}
 use mathlib.Core.Bool.{true}
 use Rattle.moment.proofs.Ways.{back, back_pos, sfits, negated, abs_signed}
-use borrow.Author.Rules.{rules}
 use Rattle.lines.proofs.clock.minus.Goals as goal
 
 pub overflow_sub-result : goal.overflow_sub-result

@@ -1,14 +1,9 @@
 -- `lines::clock::number_of` meets its contract. The loop's invariant: the answer is that of the digits still
 -- to come, after those passed, whose number is n. Assumes nothing.
-use Prim.Native.Nat.{◌-◌, ◌≤◌}
-use mathlib.Core.Path.{◌≡◌, sym, ◌∙◌}
+use mathlib.Core.Path.{sym, ◌∙◌}
 use native.Mathlib.Omega.{arith}
-use lib.ListN.{length, drop}
-use borrow.Author.Tests.{not-true, not-false}
 use Rattle.text.proofs.Bytes.{digit_bounds}
-use Rattle.lines.specs.First.{up_to}
-use Rattle.lines.proofs.Numbers.{on_from, number_none, number_start, number_on, number_stop, number_over, number_past}
-use borrow.Author.Rules.{rules}
+use Rattle.lines.proofs.Numbers.{number_none, number_start, number_on, number_stop, number_over, number_past}
 use Rattle.lines.proofs.clock.number_of.Goals as goal
 
 pub returns-then-s-eq0 : goal.returns-then-s-eq0

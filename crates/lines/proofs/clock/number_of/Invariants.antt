@@ -1,13 +1,10 @@
 -- `lines::clock::number_of` meets its contract. The loop's invariant: the answer is that of the digits still
 -- to come, after those passed, whose number is n. Assumes nothing.
 use Prim.Native.Nat.{◌-◌, ◌≤◌}
-use mathlib.Core.Path.{◌≡◌, sym, ◌∙◌}
-use native.Mathlib.Omega.{arith}
+use mathlib.Core.Path.{◌≡◌}
 use lib.ListN.{length, drop}
-use borrow.Author.Tests.{not-true, not-false}
-use Rattle.text.proofs.Bytes.{digit_bounds}
 use Rattle.lines.specs.First.{up_to}
-use Rattle.lines.proofs.Numbers.{on_from, number_none, number_start, number_on, number_stop, number_over, number_past}
+use Rattle.lines.proofs.Numbers.{on_from}
 use Rattle.lines.proofs.clock.number_of.Given as goal
 
 abbrev pub invariant-loop-i : goal.invariant-loop-i

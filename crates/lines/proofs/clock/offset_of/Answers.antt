@@ -13,7 +13,6 @@ use Rattle.text.proofs.Runs.{part_all}
 use Rattle.moment.proofs.Ways.{back, back_pos, abs_signed}
 use Rattle.lines.specs.First.{number_of, up_to}
 use Rattle.lines.proofs.Numbers.{at_most, near_west, near_east}
-use borrow.Author.Rules.{rules}
 use Rattle.lines.proofs.clock.offset_of.Goals as goal
 use Rattle.lines.proofs.clock.offset_of.Tie as tie
 use Rattle.lines.proofs.clock.offset_of.Lts as lts

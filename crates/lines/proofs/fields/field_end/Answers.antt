@@ -1,13 +1,8 @@
 -- `lines::fields::field_end` meets its contract. The loop's invariant: the field ends where what is left of it ends. Assumes nothing.
-use Prim.Native.Nat.{◌-◌}
 use mathlib.Core.Bool.{not}
-use mathlib.Core.Path.{◌≡◌, refl, ap, ◌∙◌}
-use lib.ListN.{length}
+use mathlib.Core.Path.{refl, ap, ◌∙◌}
 use borrow.Author.Tests.{eq-eqb, ne_eqb}
 use Rattle.text.proofs.Runs.{end_on, end_stop, end_past, passed}
-use Rattle.text.specs.Places.{end_at}
-use Rattle.lines.specs.Fields.{in_field}
-use borrow.Author.Rules.{rules}
 use Rattle.lines.proofs.fields.field_end.Goals as goal
 
 pub loop-i-init : goal.loop-i-init

@@ -1,13 +1,8 @@
 -- `lines::fields::is_plain` meets its contract. The loop's invariant: the answer is that of the bytes from here on. Assumes nothing.
-use Prim.Native.Nat.{◌-◌}
 use mathlib.Core.Bool.{not}
-use mathlib.Core.Path.{◌≡◌, refl, sym, ap, ◌∙◌}
-use lib.Dec.{eqb}
-use lib.ListN.{length, drop}
+use mathlib.Core.Path.{refl, sym, ap, ◌∙◌}
 use borrow.Author.Tests.{le-leb, lt-leb, eq-eqb, ne_eqb}
-use Rattle.rules.specs.Basics.{every}
 use Rattle.text.proofs.Runs.{every_on, every_stop, every_past}
-use borrow.Author.Rules.{rules}
 use Rattle.lines.proofs.fields.is_plain.Goals as goal
 
 pub returns-then-s-gt-LONGEST : goal.returns-then-s-gt-LONGEST

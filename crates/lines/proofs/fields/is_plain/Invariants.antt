@@ -1,12 +1,10 @@
 -- `lines::fields::is_plain` meets its contract. The loop's invariant: the answer is that of the bytes from here on. Assumes nothing.
 use Prim.Native.Nat.{◌-◌}
 use mathlib.Core.Bool.{not}
-use mathlib.Core.Path.{◌≡◌, refl, sym, ap, ◌∙◌}
+use mathlib.Core.Path.{◌≡◌}
 use lib.Dec.{eqb}
 use lib.ListN.{length, drop}
-use borrow.Author.Tests.{le-leb, lt-leb, eq-eqb, ne_eqb}
 use Rattle.rules.specs.Basics.{every}
-use Rattle.text.proofs.Runs.{every_on, every_stop, every_past}
 use Rattle.lines.proofs.fields.is_plain.Given as goal
 
 abbrev pub invariant-loop-i : goal.invariant-loop-i

@@ -3,13 +3,8 @@ use Prim.Native.Nat.{ℕ, ◌+◌, ◌-◌, ◌≤◌, ◌<◌}
 use mathlib.Core.Path.{◌≡◌, refl, sym, ap, ◌∙◌}
 use native.Mathlib.Omega.{arith}
 use native.Mathlib.Nat.{add-zero, zero-add}
-use lib.ListN.{length, set, drop, length-set}
-use lib.Seq.{sets}
-use Rattle.rules.specs.Basics.{parts}
-use Rattle.rules.specs.Program.{buffered}
-use Rattle.lines.specs.Fields.{is_tab}
+use lib.ListN.{length, set, length-set}
 use Rattle.lines.proofs.Parts.{lay_on, lay_end, length_rest}
-use borrow.Author.Rules.{rules}
 use Rattle.lines.proofs.fields.lay_from.Goals as goal
 
 pub loop-i-init : goal.loop-i-init

@@ -1,14 +1,11 @@
 -- `lines::fields::lay_from` meets its contract. The loop's invariant: what is still to be laid completes the modifiers. Assumes nothing.
-use Prim.Native.Nat.{ℕ, ◌+◌, ◌-◌, ◌≤◌, ◌<◌}
-use mathlib.Core.Path.{◌≡◌, refl, sym, ap, ◌∙◌}
-use native.Mathlib.Omega.{arith}
-use native.Mathlib.Nat.{add-zero, zero-add}
-use lib.ListN.{length, set, drop, length-set}
+use Prim.Native.Nat.{◌+◌, ◌-◌, ◌≤◌}
+use mathlib.Core.Path.{◌≡◌}
+use lib.ListN.{length, drop}
 use lib.Seq.{sets}
 use Rattle.rules.specs.Basics.{parts}
 use Rattle.rules.specs.Program.{buffered}
 use Rattle.lines.specs.Fields.{is_tab}
-use Rattle.lines.proofs.Parts.{lay_on, lay_end, length_rest}
 use Rattle.lines.proofs.fields.lay_from.Given as goal
 
 abbrev pub invariant-loop-i : goal.invariant-loop-i

@@ -4,7 +4,6 @@ use native.Mathlib.Omega.{arith}
 use Rattle.rules.specs.Program.{buffered}
 use Rattle.digits.proofs.Buffer.{laid_as}
 use Rattle.lines.proofs.Parts.{after_end, after_tab}
-use borrow.Author.Rules.{rules}
 use Rattle.lines.proofs.fields.lay_modifiers.Goals as goal
 
 pub returns-then-s-end : goal.returns-then-s-end

@@ -1,6 +1,5 @@
 -- `lines::fields::zeroed` meets its contract. Assumes nothing.
 use borrow.Author.Tests.{eq-eqb, ne_eqb}
-use borrow.Author.Rules.{rules}
 use Rattle.lines.proofs.fields.zeroed.Goals as goal
 
 pub returns-then-b-eq-TAB : goal.returns-then-b-eq-TAB

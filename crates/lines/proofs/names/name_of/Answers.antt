@@ -1,7 +1,6 @@
 -- `lines::names::name_of` meets its contract. Assumes nothing.
 use mathlib.Core.Path.{sym, ◌∙◌}
 use Rattle.lines.proofs.Naming.{name_none, name_d_lem, name_j, name_s, name_t_lem, name_u, name_rest}
-use borrow.Author.Rules.{rules}
 use Rattle.lines.proofs.names.name_of.Goals as goal
 
 pub returns-then-s-eq0 : goal.returns-then-s-eq0

@@ -1,6 +1,5 @@
 -- `lines::names::name_t` meets its contract. Assumes nothing.
 use mathlib.Core.Path.{sym, ◌∙◌}
-use borrow.Author.Rules.{rules}
 use Rattle.lines.proofs.names.name_t.Goals as goal
 
 pub returns-then-same : goal.returns-then-same

@@ -1,6 +1,5 @@
 -- `lines::names::only` meets its contract. Assumes nothing.
 use mathlib.Core.Path.{sym, ◌∙◌}
-use borrow.Author.Rules.{rules}
 use Rattle.lines.proofs.names.only.Goals as goal
 
 pub returns-then-same : goal.returns-then-same

@@ -1,11 +1,7 @@
 -- `lines::names::same` meets its contract. The loop's invariant: the answer is that of what is left to compare. Assumes nothing.
-use Prim.Native.Nat.{◌-◌}
-use mathlib.Core.Path.{◌≡◌, refl, sym, ◌∙◌}
+use mathlib.Core.Path.{refl, sym, ◌∙◌}
 use native.Mathlib.Omega.{arith}
-use lib.ListN.{length, drop}
-use Rattle.rules.specs.Program as rule
 use Rattle.lines.proofs.Naming.{same_length, same_on, same_stop, same_past}
-use borrow.Author.Rules.{rules}
 use Rattle.lines.proofs.names.same.Goals as goal
 
 pub returns-then-s-w : goal.returns-then-s-w

@@ -1,10 +1,8 @@
 -- `lines::names::same` meets its contract. The loop's invariant: the answer is that of what is left to compare. Assumes nothing.
 use Prim.Native.Nat.{◌-◌}
-use mathlib.Core.Path.{◌≡◌, refl, sym, ◌∙◌}
-use native.Mathlib.Omega.{arith}
+use mathlib.Core.Path.{◌≡◌}
 use lib.ListN.{length, drop}
 use Rattle.rules.specs.Program as rule
-use Rattle.lines.proofs.Naming.{same_length, same_on, same_stop, same_past}
 use Rattle.lines.proofs.names.same.Given as goal
 
 abbrev pub invariant-loop-i : goal.invariant-loop-i

@@ -1,9 +1,6 @@
 -- `modifiers::buffer::end_of` meets its contract. The loop's invariant: the modifier ends where what is left of it ends. Assumes nothing.
-use Rattle.std.proofs.Common.{◌≡◌, ◌-◌, not, length, refl, ap, ◌∙◌, rules, eq-eqb, ne_eqb}
+use Rattle.std.proofs.Common.{not, refl, ap, ◌∙◌, eq-eqb, ne_eqb}
 use Rattle.text.proofs.Runs.{end_on, end_stop, end_past, passed}
-use Rattle.text.specs.Places.{end_at}
-use Rattle.modifiers.specs.Buffer.{is_byte}
-use borrow.Author.Rules.{rules}
 use Rattle.modifiers.proofs.buffer.end_of.Goals as goal
 
 pub loop-i-init : goal.loop-i-init

@@ -1,6 +1,5 @@
 -- `modifiers::buffer::end_of` meets its contract. The loop's invariant: the modifier ends where what is left of it ends. Assumes nothing.
-use Rattle.std.proofs.Common.{◌≡◌, ◌-◌, not, length, refl, ap, ◌∙◌, rules, eq-eqb, ne_eqb}
-use Rattle.text.proofs.Runs.{end_on, end_stop, end_past, passed}
+use Rattle.std.proofs.Common.{◌≡◌, ◌-◌, length}
 use Rattle.text.specs.Places.{end_at}
 use Rattle.modifiers.specs.Buffer.{is_byte}
 use Rattle.modifiers.proofs.buffer.end_of.Given as goal

@@ -1,10 +1,8 @@
 -- `modifiers::buffer::fault_of` meets its contract. Assumes nothing.
-use Rattle.std.proofs.Common.{◌≡◌, ◌-◌, ◌≤◌, Bool, length, drop, sym, ap, ◌∙◌, arith, rules}
+use Rattle.std.proofs.Common.{sym, ap, ◌∙◌, arith}
 use Rattle.rules.specs.Basics.{if◌then◌else◌}
-use Rattle.modifiers.specs.Buffer.{fault_of}
 use Rattle.modifiers.specs.declared.buffer.Fault.TheVariants.{Bytes, Nothing}
-use Rattle.modifiers.proofs.Entries.{fault_from, fault_start, fault_zero, fault_many, fault_byte, fault_high, fault_long, fault_open, fault_end}
-use borrow.Author.Rules.{rules}
+use Rattle.modifiers.proofs.Entries.{fault_start, fault_zero, fault_many, fault_byte, fault_high, fault_long, fault_open, fault_end}
 use Rattle.modifiers.proofs.buffer.fault_of.Goals as goal
 
 pub loop-i-init : goal.loop-i-init

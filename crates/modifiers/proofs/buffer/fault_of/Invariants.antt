@@ -1,9 +1,7 @@
 -- `modifiers::buffer::fault_of` meets its contract. Assumes nothing.
-use Rattle.std.proofs.Common.{◌≡◌, ◌-◌, ◌≤◌, Bool, length, drop, sym, ap, ◌∙◌, arith, rules}
-use Rattle.rules.specs.Basics.{if◌then◌else◌}
+use Rattle.std.proofs.Common.{◌≡◌, ◌-◌, ◌≤◌, length, drop}
 use Rattle.modifiers.specs.Buffer.{fault_of}
-use Rattle.modifiers.specs.declared.buffer.Fault.TheVariants.{Bytes, Nothing}
-use Rattle.modifiers.proofs.Entries.{fault_from, fault_start, fault_zero, fault_many, fault_byte, fault_high, fault_long, fault_open, fault_end}
+use Rattle.modifiers.proofs.Entries.{fault_from}
 use Rattle.modifiers.proofs.buffer.fault_of.Given as goal
 
 abbrev pub invariant-loop-i : goal.invariant-loop-i

@@ -1,5 +1,5 @@
 -- `modifiers::counts::arithmetic` meets its contract. Assumes nothing.
-use Rattle.std.proofs.Common.{◌≡◌, ◌<◌, drop, ⊎_elim, rules}
+use Rattle.std.proofs.Common.{◌≡◌, ◌<◌, drop}
 use Rattle.rules.specs.Basics.{got, other}
 use Rattle.rules.specs.Modifiers.{date_step}
 use Rattle.moment.specs.Held.{held}
@@ -8,7 +8,6 @@ use Rattle.reading.specs.Readers.{year_month_day, ymd_of, Limits}
 use Rattle.modifiers.specs.Times.{clock_of}
 use Rattle.modifiers.proofs.Forms.{no_date, date_other, date_refused, date_is, dated, date_stops, not_dated}
 use Rattle.modifiers.proofs.Answers.{stepped, refused, stepped_as}
-use borrow.Author.Rules.{rules}
 use Rattle.modifiers.proofs.counts.arithmetic.Goals as goal
 use Rattle.modifiers.proofs.counts.arithmetic.Goals.{in-Is+in-Other, in_default}
 use Rattle.modifiers.proofs.counts.arithmetic.Tie as tie
@@ -38,8 +37,9 @@ returns-in-Unread c = refused _ _ _ (date_stops _ _ _ _ c.sign-t.ensures.s_value
 undated : (c : lts.At-match-branch tie.the-claims reads.Pre reads.Post tie.handed_clauses) → let a = c.args in date_step c.sign-t.result.minus (drop c.sign-t.result.next a.s.now) (held a.p) ≡ other
 undated c =
     elim c.match-year_month_day.branch [
-      in-Is+in-Other w ↦ date_other _ _ _ _ _ _ _ (read_as (ymd_of c.args.s.now) c.year_month_day.ensures.result_value w.in-Is.is) (read_as clock_of w.clock_after.ensures.result_value w.in-Other.is)
-    | in_default w ↦ no_date _ _ _ (read_as (ymd_of c.args.s.now) c.year_month_day.ensures.result_value w.in_default.is) ]
+      | in-Is+in-Other w ↦ date_other _ _ _ _ _ _ _ (read_as (ymd_of c.args.s.now) c.year_month_day.ensures.result_value w.in-Is.is) (read_as clock_of w.clock_after.ensures.result_value w.in-Other.is)
+      | in_default w ↦ no_date _ _ _ (read_as (ymd_of c.args.s.now) c.year_month_day.ensures.result_value w.in_default.is)
+    ]
 
 pub returns : goal.returns
 returns c = stepped_as _ (not_dated _ _ _ _ c.sign-t.ensures.s_value (undated c.before.before)) c.time_step.ensures

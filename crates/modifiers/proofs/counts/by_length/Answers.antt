@@ -1,6 +1,5 @@
 -- `modifiers::counts::by_length` meets its contract. Assumes nothing.
-use Rattle.std.proofs.Common.{◌≡◌, ◌≤◌, nat_abs, sym, ap, ◌∙◌, subst, w64, to_z, of_z, rules}
-use borrow.Author.Tests.{not-true, not-false}
+use Rattle.std.proofs.Common.{◌≡◌, ◌≤◌, nat_abs, sym, ap, ◌∙◌, subst, w64, to_z, of_z}
 use Rattle.rules.specs.Modifiers.{unit_ms}
 use Rattle.real.specs.StepMost.{step_most}
 use Rattle.moment.specs.Held.{held}
@@ -9,7 +8,6 @@ use Rattle.moment.specs.Steps.{length_on as by_length}
 use Rattle.modifiers.proofs.Forms.{length_out, length_in}
 use Rattle.modifiers.proofs.Answers.{stepped, refused}
 use mir.ValLaws.{to_z-of_z}
-use borrow.Author.Rules.{rules}
 use Rattle.modifiers.proofs.counts.by_length.Goals as goal
 use Rattle.modifiers.proofs.counts.by_length.Tie as tie
 use Rattle.modifiers.proofs.counts.by_length.Lts as lts

@@ -1,9 +1,7 @@
 -- `modifiers::counts::by_months` meets its contract. Assumes nothing.
-use Rattle.std.proofs.Common.{sym, ◌∙◌, rules}
-use borrow.Author.Tests.{not-true, not-false}
+use Rattle.std.proofs.Common.{sym, ◌∙◌}
 use Rattle.modifiers.proofs.Answers.{stepped, refused}
 use Rattle.modifiers.proofs.Forms.{months_out, months_in}
-use borrow.Author.Rules.{rules}
 use Rattle.modifiers.proofs.counts.by_months.Goals as goal
 
 pub returns-then-not-below : goal.returns-then-not-below

@@ -1,11 +1,10 @@
 -- `modifiers::counts::by_unit` meets its contract. Assumes nothing.
-use Rattle.std.proofs.Common.{◌≡◌, sym, ◌∙◌, rules}
+use Rattle.std.proofs.Common.{◌≡◌, sym, ◌∙◌}
 use Rattle.moment.specs.Held.{held}
 use Rattle.modifiers.specs.Words.{scale_of}
 use Rattle.modifiers.specs.declared.counts.Scale.{Scale}
 use Rattle.modifiers.proofs.Forms.{length_by, months_by, none_by, reaches}
 use Rattle.modifiers.proofs.Answers.{stepped_as, refused}
-use borrow.Author.Rules.{rules}
 use Rattle.modifiers.proofs.counts.by_unit.Goals as goal
 use Rattle.modifiers.proofs.counts.by_unit.Tie as tie
 use Rattle.modifiers.proofs.counts.by_unit.Lts as lts

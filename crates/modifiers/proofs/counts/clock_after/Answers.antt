@@ -1,12 +1,11 @@
 -- `modifiers::counts::clock_after` meets its contract. Assumes nothing.
-use Rattle.std.proofs.Common.{◌≡◌, ◌+◌, drop, sym, refl, ap, ◌∙◌, arith, rules}
+use Rattle.std.proofs.Common.{◌≡◌, ◌+◌, drop, sym, refl, ap, ◌∙◌, arith}
 use Rattle.rules.specs.Reading.{time}
 use Rattle.rules.specs.Basics.{got, skip}
 use Rattle.rules.specs.Modifiers.{wide_space}
 use Rattle.reading.specs.Readers.{time_of}
 use Rattle.moment.specs.Ranges.{TimeRead}
 use Rattle.modifiers.proofs.Forms.{time_read, time_held, time_end, time_other, time_unread, time_is}
-use borrow.Author.Rules.{rules}
 use Rattle.modifiers.proofs.counts.clock_after.Goals as goal
 use Rattle.modifiers.proofs.counts.clock_after.Tie as tie
 use Rattle.modifiers.proofs.counts.clock_after.Lts as lts

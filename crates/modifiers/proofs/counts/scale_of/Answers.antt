@@ -1,7 +1,5 @@
 -- `modifiers::counts::scale_of` meets its contract. Assumes nothing.
-use Rattle.std.proofs.Common.{rules}
 use Rattle.real.proofs.Literals.{days_limit, day, hours_limit, hour, minutes_limit, minute, seconds_limit, thousand, months_limit, thirty, years_limit, year_days}
-use borrow.Author.Rules.{rules}
 use Rattle.modifiers.proofs.counts.scale_of.Goals as goal
 
 pub returns-in-Day : goal.returns-in-Day

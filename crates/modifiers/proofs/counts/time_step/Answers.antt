@@ -1,5 +1,5 @@
 -- `modifiers::counts::time_step` meets its contract. Assumes nothing.
-use Rattle.std.proofs.Common.{◌≡◌, sym, refl, ap, ◌∙◌, rules}
+use Rattle.std.proofs.Common.{refl, ap}
 use Rattle.rules.specs.Basics.{refuse, ◌or◌}
 use Rattle.rules.specs.declared.Refusal.{Refusal}
 use Rattle.moment.specs.Held.{held}
@@ -8,7 +8,6 @@ use Rattle.moment.specs.Steps.{time_on as byTime}
 use Rattle.moment.specs.Ranges.{TimeRead}
 use Rattle.modifiers.proofs.Forms.{time_read, time_held, no_time, is_time}
 use Rattle.modifiers.proofs.Answers.{stepped, stepped_as}
-use borrow.Author.Rules.{rules}
 use Rattle.modifiers.proofs.counts.time_step.Goals as goal
 use Rattle.modifiers.proofs.counts.time_step.Tie as tie
 use Rattle.modifiers.proofs.counts.time_step.Lts as lts

@@ -1,9 +1,8 @@
 -- `modifiers::counts::unit_after` meets its contract. Assumes nothing.
-use Rattle.std.proofs.Common.{not, ap, ◌∙◌, rules}
+use Rattle.std.proofs.Common.{not, ap, ◌∙◌}
 use Rattle.rules.specs.Basics.{front}
 use Rattle.rules.specs.Modifiers.{wide_space}
 use Rattle.modifiers.specs.Words.{unit_of}
-use borrow.Author.Rules.{rules}
 use Rattle.modifiers.proofs.counts.unit_after.Goals as goal
 
 pub returns : goal.returns

@@ -1,5 +1,5 @@
 -- `modifiers::counts::unit_step` meets its contract. Assumes nothing.
-use Rattle.std.proofs.Common.{◌≡◌, ℕ, List, length, take, drop, sym, ap, ◌∙◌, zero-add, arith, length-take-le, rules}
+use Rattle.std.proofs.Common.{◌≡◌, length, take, drop, sym, ap, ◌∙◌, zero-add, arith, length-take-le}
 use native.Mathlib.Nat.{sub-zero}
 use Rattle.rules.specs.Decimal.{decimal}
 use Rattle.rules.specs.Basics.{front, skip, refuse, ◌or◌}
@@ -10,7 +10,6 @@ use Rattle.moment.specs.Held.{held}
 use Rattle.modifiers.specs.Words.{unit_of, step_by}
 use Rattle.modifiers.proofs.Forms.{in_word, unit_none, unit_over, unit_is}
 use Rattle.modifiers.proofs.Answers.{refused, stepped_as}
-use borrow.Author.Rules.{rules}
 use Rattle.modifiers.proofs.counts.unit_step.Goals as goal
 use Rattle.modifiers.proofs.counts.unit_step.Tie as tie
 use Rattle.modifiers.proofs.counts.unit_step.Lts as lts

@@ -1,8 +1,6 @@
 -- `modifiers::steps::auto` meets its contract. Assumes nothing.
-use Rattle.std.proofs.Common.{rules}
 use Rattle.moment.proofs.Chains.{answered, refused}
 use Rattle.modifiers.proofs.Answers.{at_first, later}
-use borrow.Author.Rules.{rules}
 use Rattle.modifiers.proofs.steps.auto.Goals as goal
 
 pub returns-then-i-gt0 : goal.returns-then-i-gt0

@@ -1,6 +1,5 @@
 -- `modifiers::steps::in_week` meets its contract. Assumes nothing.
 use Rattle.real.proofs.Literals.{nil, seven}
-use borrow.Author.Rules.{rules}
 use Rattle.modifiers.proofs.steps.in_week.Goals as goal
 
 pub returns-then-x : goal.returns-then-x

@@ -1,9 +1,8 @@
 -- `modifiers::steps::is_day` meets its contract. Assumes nothing.
-use Rattle.std.proofs.Common.{sym, ap, ◌∙◌, rules}
+use Rattle.std.proofs.Common.{sym, ap, ◌∙◌}
 use lib.Ieee.{eq}
 use Rattle.rules.specs.Floats.{number}
 use Rattle.modifiers.proofs.Choices.{and_then, and_else}
-use borrow.Author.Rules.{rules}
 use Rattle.modifiers.proofs.steps.is_day.Goals as goal
 
 pub returns-then-in_week : goal.returns-then-in_week

@@ -1,14 +1,12 @@
 -- `modifiers::steps::on_day` meets its contract. Assumes nothing.
-use Rattle.std.proofs.Common.{◌≡◌, ◌≤◌, true, ◌&&◌, sym, ap, ◌∙◌, subst, arith, rules}
+use Rattle.std.proofs.Common.{◌≡◌, ◌≤◌, true, ◌&&◌, sym, ap, ◌∙◌, subst, arith}
 use lib.Ieee.{le, eq}
-use borrow.Author.Tests.{not-true, not-false}
 use Rattle.rules.specs.Floats.{number, whole, within}
 use Rattle.rules.specs.Modifiers.{to_weekday}
 use Rattle.real.proofs.Tests.{and_left, and_right}
 use Rattle.moment.specs.Held.{held}
 use Rattle.moment.proofs.Chains.{moved_as}
 use Rattle.modifiers.proofs.Answers.{stepped, refused, provided_then, provided_else, day_most}
-use borrow.Author.Rules.{rules}
 use Rattle.modifiers.proofs.steps.on_day.Goals as goal
 use Rattle.modifiers.proofs.steps.on_day.Tie as tie
 use Rattle.modifiers.proofs.steps.on_day.Lts as lts

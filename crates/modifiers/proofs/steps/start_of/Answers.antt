@@ -1,9 +1,7 @@
 -- `modifiers::steps::start_of` meets its contract. Assumes nothing.
-use Rattle.std.proofs.Common.{sym, ◌∙◌, rules}
-use borrow.Author.Tests.{not-true, not-false}
+use Rattle.std.proofs.Common.{sym, ◌∙◌}
 use Rattle.moment.proofs.Chains.{answered, refused}
 use Rattle.modifiers.proofs.Dispatch.{start_not, start_day, start_month, start_year, start_none}
-use borrow.Author.Rules.{rules}
 use Rattle.modifiers.proofs.steps.start_of.Goals as goal
 
 pub returns-then-not-stands : goal.returns-then-not-stands

@@ -1,11 +1,10 @@
 -- `modifiers::steps::weekday` meets its contract. Assumes nothing.
-use Rattle.std.proofs.Common.{◌≡◌, sym, ap, ◌∙◌, rules}
+use Rattle.std.proofs.Common.{◌≡◌, sym, ap, ◌∙◌}
 use Rattle.rules.specs.Modifiers.{wide_space}
 use Rattle.rules.specs.Basics.{trim}
 use Rattle.rules.specs.Decimal.{decimal}
 use Rattle.decimal.specs.AsRead.{as_read}
 use Rattle.modifiers.proofs.Answers.{refused, stepped_as, weekday_none, weekday_over, weekday_is}
-use borrow.Author.Rules.{rules}
 use Rattle.modifiers.proofs.steps.weekday.Goals as goal
 use Rattle.modifiers.proofs.steps.weekday.Tie as tie
 use Rattle.modifiers.proofs.steps.weekday.Lts as lts

@@ -1,7 +1,6 @@
 -- `modifiers::words::is_unit` meets its contract. Assumes nothing.
-use Rattle.std.proofs.Common.{sym, refl, ◌∙◌, rules}
+use Rattle.std.proofs.Common.{sym, ◌∙◌}
 use Rattle.modifiers.proofs.Choices.{or_then, or_else}
-use borrow.Author.Rules.{rules}
 use Rattle.modifiers.proofs.words.is_unit.Goals as goal
 
 pub returns-then-is_word : goal.returns-then-is_word

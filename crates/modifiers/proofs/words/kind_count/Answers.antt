@@ -1,8 +1,7 @@
 -- `modifiers::words::kind_count` meets its contract. Assumes nothing.
-use Rattle.std.proofs.Common.{sym, refl, ◌∙◌, rules}
+use Rattle.std.proofs.Common.{sym, refl, ◌∙◌}
 use Rattle.modifiers.proofs.Letters.{plus, minus, no_sign}
 use Rattle.modifiers.proofs.Choices.{pick_then, pick_else}
-use borrow.Author.Rules.{rules}
 use Rattle.modifiers.proofs.words.kind_count.Goals as goal
 
 pub returns-then-b-eq43 : goal.returns-then-b-eq43

@@ -1,7 +1,6 @@
 -- `modifiers::words::kind_of` meets its contract. Assumes nothing.
-use Rattle.std.proofs.Common.{sym, ◌∙◌, rules}
+use Rattle.std.proofs.Common.{sym, ◌∙◌}
 use Rattle.modifiers.proofs.Letters.{kind_none, kind_a, kind_c, kind_f, kind_j, kind_l, kind_s_lem, kind_u_lem, kind_w_lem, kind_rest}
-use borrow.Author.Rules.{rules}
 use Rattle.modifiers.proofs.words.kind_of.Goals as goal
 
 pub returns-then-s-eq0 : goal.returns-then-s-eq0

@@ -1,7 +1,6 @@
 -- `modifiers::words::kind_s` meets its contract. Assumes nothing.
-use Rattle.std.proofs.Common.{sym, refl, ◌∙◌, rules}
+use Rattle.std.proofs.Common.{sym, refl, ◌∙◌}
 use Rattle.modifiers.proofs.Choices.{pick_then, pick_else}
-use borrow.Author.Rules.{rules}
 use Rattle.modifiers.proofs.words.kind_s.Goals as goal
 
 pub returns-then-is_word : goal.returns-then-is_word

@@ -1,7 +1,6 @@
 -- `modifiers::words::unit_m` meets its contract. Assumes nothing.
-use Rattle.std.proofs.Common.{sym, refl, ◌∙◌, rules}
+use Rattle.std.proofs.Common.{sym, refl, ◌∙◌}
 use Rattle.modifiers.proofs.Choices.{pick_then, pick_else}
-use borrow.Author.Rules.{rules}
 use Rattle.modifiers.proofs.words.unit_m.Goals as goal
 
 pub returns-then-is_unit : goal.returns-then-is_unit

@@ -1,7 +1,6 @@
 -- `modifiers::words::unit_of` meets its contract. Assumes nothing.
-use Rattle.std.proofs.Common.{sym, ◌∙◌, rules}
+use Rattle.std.proofs.Common.{sym, ◌∙◌}
 use Rattle.modifiers.proofs.Letters.{unit_none, unit_d, unit_h, unit_m_lem, unit_s, unit_y, unit_rest}
-use borrow.Author.Rules.{rules}
 use Rattle.modifiers.proofs.words.unit_of.Goals as goal
 
 pub returns-then-s-eq0 : goal.returns-then-s-eq0

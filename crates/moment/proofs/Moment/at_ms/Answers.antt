@@ -7,7 +7,6 @@ use Rattle.rules.specs.Moments.{clear, set_raw, counted}
 use Rattle.moment.specs.Held.{held}
 use Rattle.moment.proofs.Bounds.{at_kept}
 use Rattle.moment.proofs.Chains.{filled}
-use borrow.Author.Rules.{rules}
 use Rattle.moment.proofs.Moment.at_ms.Goals as goal
 
 pub returns : goal.returns

@@ -8,7 +8,6 @@ use Rattle.real.proofs.Epoch.{auto_ms}
 use Rattle.moment.specs.Held.{held}
 use Rattle.moment.proofs.Chains.{same, filled_as}
 use Rattle.moment.proofs.Modifiers.{auto_known, auto_day, auto_out, auto_in}
-use borrow.Author.Rules.{rules}
 use Rattle.moment.proofs.Moment.auto.Goals as goal
 
 pub returns-then-not-self : goal.returns-then-not-self

@@ -1,7 +1,6 @@
 -- `moment::Moment::blank` meets its contract.
 use Rattle.moment.proofs.Bounds.{after_blank}
 use Rattle.moment.proofs.Chains.{made}
-use borrow.Author.Rules.{rules}
 use Rattle.moment.proofs.Moment.blank.Goals as goal
 
 pub returns : goal.returns

@@ -15,7 +15,6 @@ use Rattle.moment.proofs.Bounds.{fill_year}
 use Rattle.moment.proofs.Chains.{fresh_movable, fresh_move, moved_as}
 use Rattle.moment.proofs.Modifiers.{step}
 use Rattle.moment.proofs.Ways.{back, abs_signed}
-use borrow.Author.Rules.{rules}
 use Rattle.moment.proofs.Moment.by_date.Goals as goal
 use Rattle.moment.proofs.Moment.by_date.Tie as tie
 use Rattle.moment.proofs.Moment.by_date.Lts as lts

@@ -4,13 +4,12 @@ use native.Mathlib.Omega.{arith}
 use lib.IntN.{ℤ, nat_abs}
 use mir.Syntax.{w64}
 use mir.ValLaws.{to_z-of_z}
-use Rattle.rules.specs.Moments.{moved, set_over}
+use Rattle.rules.specs.Moments.{set_over}
 use Rattle.moment.specs.Held.{held}
 use Rattle.moment.specs.Steps.{length_on}
 use Rattle.moment.specs.Ranges.{most_before}
 use Rattle.moment.proofs.Chains.{then_move, move_fill, moved_as}
 use Rattle.moment.proofs.Modifiers.{step}
-use borrow.Author.Rules.{rules}
 use Rattle.moment.proofs.Moment.by_length.Goals as goal
 
 pub moved-requires : goal.moved-requires

@@ -16,7 +16,6 @@ use Rattle.moment.proofs.Bounds.{fill_year}
 use Rattle.moment.proofs.Chains.{fresh_movable, fresh_move, moved_as}
 use Rattle.moment.proofs.Modifiers.{step, shift_times}
 use Rattle.moment.proofs.Ways.{sfits, back, back_pos, abs_product}
-use borrow.Author.Rules.{rules}
 use Rattle.moment.proofs.Moment.by_months.Goals as goal
 use Rattle.moment.proofs.Moment.by_months.Tie as tie
 use Rattle.moment.proofs.Moment.by_months.Lts as lts

@@ -3,7 +3,6 @@ use native.Mathlib.Omega.{arith}
 use Rattle.moment.specs.Ranges.{most_before}
 use Rattle.moment.proofs.Chains.{then_move}
 use Rattle.moment.proofs.Modifiers.{step}
-use borrow.Author.Rules.{rules}
 use Rattle.moment.proofs.Moment.by_time.Goals as goal
 
 pub moved-requires : goal.moved-requires

@@ -2,7 +2,6 @@
 use Rattle.rules.specs.Moments.{clear, set_over}
 use Rattle.rules.specs.Modifiers.{ceiling}
 use Rattle.moment.proofs.Chains.{then_fill}
-use borrow.Author.Rules.{rules}
 use Rattle.moment.proofs.Moment.ceiling.Goals as goal
 
 pub returns : goal.returns

@@ -3,7 +3,6 @@ use mathlib.Core.Path.{refl}
 use Rattle.moment.specs.Held.{held}
 use Rattle.moment.proofs.Bounds.{clear_kept}
 use Rattle.moment.proofs.Chains.{filled}
-use borrow.Author.Rules.{rules}
 use Rattle.moment.proofs.Moment.clear.Goals as goal
 
 pub returns : goal.returns

@@ -1,12 +1,10 @@
 -- `moment::Moment::count_ms` meets its contract.
 use mathlib.Core.Path.{sym, ◌∙◌}
-use borrow.Author.Tests.{not-true, not-false}
 use Rattle.moment.specs.Held.{held}
 use Rattle.moment.proofs.Bounds.{count_kept}
 use Rattle.moment.proofs.Chains.{filled}
 use Rattle.moment.proofs.Steps.{already}
 use Rattle.moment.proofs.Sums.{date_asked, time_asked, count_sums, count_fails}
-use borrow.Author.Rules.{rules}
 use Rattle.moment.proofs.Moment.count_ms.Goals as goal
 
 pub returns-then-self : goal.returns-then-self

@@ -1,7 +1,6 @@
 -- `moment::Moment::date_meant` meets its contract.
 use Rattle.moment.specs.Held.{held}
 use Rattle.moment.proofs.Sums.{date_known, date_not}
-use borrow.Author.Rules.{rules}
 use Rattle.moment.proofs.Moment.date_meant.Goals as goal
 
 pub returns-then-self : goal.returns-then-self

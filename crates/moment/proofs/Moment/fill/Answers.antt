@@ -2,7 +2,6 @@
 use Rattle.moment.specs.Held.{held}
 use Rattle.moment.proofs.Chains.{same, filled_as}
 use Rattle.moment.proofs.Steps.{fill_stands}
-use borrow.Author.Rules.{rules}
 use Rattle.moment.proofs.Moment.fill.Goals as goal
 
 pub returns-then-self-2 : goal.returns-then-self-2

@@ -7,7 +7,6 @@ use Rattle.moment.specs.Held.{held}
 use Rattle.moment.proofs.Bounds.{fill_date_kept}
 use Rattle.moment.proofs.Chains.{filled}
 use Rattle.moment.proofs.Steps.{date_stands, date_unknown, date_filled, date_fails, in_range_lem, before_range, after_range}
-use borrow.Author.Rules.{rules}
 use Rattle.moment.proofs.Moment.fill_date.Goals as goal
 
 pub returns-then-self : goal.returns-then-self

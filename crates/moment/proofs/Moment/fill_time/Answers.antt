@@ -7,7 +7,6 @@ use Rattle.moment.specs.Held.{held}
 use Rattle.moment.proofs.Bounds.{fill_time_kept}
 use Rattle.moment.proofs.Chains.{filled}
 use Rattle.moment.proofs.Steps.{time_stands, time_filled}
-use borrow.Author.Rules.{rules}
 use Rattle.moment.proofs.Moment.fill_time.Goals as goal
 
 pub returns-then-self : goal.returns-then-self

@@ -1,7 +1,6 @@
 -- `moment::Moment::filled` meets its contract.
 use Rattle.rules.specs.Moments.{fill_time, fill}
 use Rattle.moment.proofs.Chains.{then_fill}
-use borrow.Author.Rules.{rules}
 use Rattle.moment.proofs.Moment.filled.Goals as goal
 
 pub returns : goal.returns

@@ -8,7 +8,6 @@ use Rattle.moment.specs.Held.{held}
 use Rattle.moment.specs.Ranges.{most_before}
 use Rattle.moment.proofs.Chains.{then_move, move_fill, moved_as}
 use Rattle.moment.proofs.Modifiers.{step, floor_is}
-use borrow.Author.Rules.{rules}
 use Rattle.moment.proofs.Moment.floor.Goals as goal
 
 pub moved-requires : goal.moved-requires

@@ -6,7 +6,6 @@ use Rattle.rules.specs.Calendar.{instant}
 use Rattle.moment.specs.Held.{held}
 use Rattle.moment.proofs.Modifiers.{passes_failed, passes_range}
 use Rattle.moment.proofs.Steps.{before_range, from_range}
-use borrow.Author.Rules.{rules}
 use Rattle.moment.proofs.Moment.in_range.Goals as goal
 
 pub returns-then-self : goal.returns-then-self

@@ -3,7 +3,6 @@ use borrow.Author.Tests.{not-true, not-false}
 use Rattle.moment.specs.Held.{held}
 use Rattle.moment.proofs.Chains.{answered, refused}
 use Rattle.moment.proofs.Modifiers.{julian_uncounted, julian_known, julian_day}
-use borrow.Author.Rules.{rules}
 use Rattle.moment.proofs.Moment.julian.Goals as goal
 
 pub returns-then-not-self : goal.returns-then-not-self

@@ -10,7 +10,6 @@ use Rattle.moment.specs.Held.{held}
 use Rattle.moment.specs.Ranges.{most_before}
 use Rattle.moment.proofs.Chains.{same, then_move, move_fill, moved_as, no_move, filled_as}
 use Rattle.moment.proofs.Modifiers.{step, local_stays, local_is}
-use borrow.Author.Rules.{rules}
 use Rattle.moment.proofs.Moment.localtime.Goals as goal
 use Rattle.moment.proofs.Moment.localtime.Tie as tie
 use Rattle.moment.proofs.Moment.localtime.Lts as lts

@@ -5,7 +5,6 @@ use Rattle.moment.specs.Held.{held}
 use Rattle.moment.proofs.Bounds.{near_room}
 use Rattle.moment.proofs.Chains.{step_moved}
 use Rattle.moment.proofs.Modifiers.{step_back, step_on}
-use borrow.Author.Rules.{rules}
 use Rattle.moment.proofs.Moment.moved.Goals as goal
 
 pub overflow_sub-self : goal.overflow_sub-self

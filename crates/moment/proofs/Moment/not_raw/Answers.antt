@@ -4,7 +4,6 @@ use mathlib.Core.Path.{refl}
 use Rattle.moment.specs.Held.{held}
 use Rattle.moment.proofs.Bounds.{raw_kept}
 use Rattle.moment.proofs.Chains.{filled}
-use borrow.Author.Rules.{rules}
 use Rattle.moment.proofs.Moment.not_raw.Goals as goal
 
 pub returns : goal.returns

@@ -2,7 +2,6 @@
 use Rattle.moment.specs.Held.{held}
 use Rattle.moment.proofs.Bounds.{now_kept}
 use Rattle.moment.proofs.Chains.{filled}
-use borrow.Author.Rules.{rules}
 use Rattle.moment.proofs.Moment.now.Goals as goal
 
 pub returns : goal.returns

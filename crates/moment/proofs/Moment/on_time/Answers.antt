@@ -1,6 +1,5 @@
 -- `moment::Moment::on_time` meets its contract.
 use Rattle.real.proofs.Literals.{thousand}
-use borrow.Author.Rules.{rules}
 use Rattle.moment.proofs.Moment.on_time.Goals as goal
 
 pub returns : goal.returns

@@ -5,7 +5,6 @@ use Rattle.rules.specs.Moments.{set_over, past_end}
 use Rattle.moment.specs.Held.{held}
 use Rattle.moment.proofs.Bounds.{end_kept}
 use Rattle.moment.proofs.Chains.{filled}
-use borrow.Author.Rules.{rules}
 use Rattle.moment.proofs.Moment.past_end.Goals as goal
 
 pub returns : goal.returns

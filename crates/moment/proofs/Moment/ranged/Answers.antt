@@ -1,10 +1,8 @@
 -- `moment::Moment::ranged` meets its contract.
 use mathlib.Core.Path.{sym, ap, ◌∙◌}
-use borrow.Author.Tests.{not-true, not-false}
 use Rattle.moment.specs.Held.{held}
 use Rattle.moment.proofs.Chains.{answered, refused}
 use Rattle.moment.proofs.Modifiers.{passes, range_out, range_passed, range_lands}
-use borrow.Author.Rules.{rules}
 use Rattle.moment.proofs.Moment.ranged.Goals as goal
 
 pub returns-then-not-in_range : goal.returns-then-not-in_range

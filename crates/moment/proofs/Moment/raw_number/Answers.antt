@@ -3,14 +3,12 @@ use mathlib.Core.Bool.{true}
 use mathlib.Core.Path.{sym, ap, ◌∙◌}
 use Prim.Native.Nat.{ℕ}
 use native.Mathlib.Omega.{arith}
-use borrow.Author.Tests.{not-true, not-false}
 use Rattle.rules.specs.Calendar.{instant}
 use Rattle.rules.specs.Moments.{Moment, blank, counted, set_time, set_raw}
 use Rattle.moment.proofs.Bounds.{after_raw}
 use Rattle.moment.proofs.Chains.{made}
 use Rattle.real.proofs.Epoch.{julian_ms_lem}
 use Rattle.moment.proofs.Steps.{raw_julian, raw_other}
-use borrow.Author.Rules.{rules}
 use Rattle.moment.proofs.Moment.raw_number.Goals as goal
 
 pub returns-then-not-is_julian : goal.returns-then-not-is_julian

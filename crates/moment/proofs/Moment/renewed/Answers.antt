@@ -5,7 +5,6 @@ use Rattle.moment.specs.Held.{held}
 use Rattle.moment.proofs.Bounds.{undated_kept}
 use Rattle.moment.proofs.Chains.{filled, then_fill, filled_as}
 use Rattle.moment.proofs.Modifiers.{renew, renew_not}
-use borrow.Author.Rules.{rules}
 use Rattle.moment.proofs.Moment.renewed.Goals as goal
 
 pub returns-then-self-le28 : goal.returns-then-self-le28

@@ -1,12 +1,10 @@
 -- `moment::Moment::settled` meets its contract.
 use mathlib.Core.Path.{sym, ◌∙◌}
-use borrow.Author.Tests.{not-true, not-false}
 use Rattle.moment.specs.Held.{held}
 use Rattle.moment.proofs.Bounds.{settled_kept}
 use Rattle.moment.proofs.Chains.{filled}
 use Rattle.moment.proofs.Steps.{taken}
 use Rattle.moment.proofs.Sums.{settled_not, settled_fails, settled_time, settled_sums}
-use borrow.Author.Rules.{rules}
 use Rattle.moment.proofs.Moment.settled.Goals as goal
 
 pub returns-then-self-eq-NO_ZONE : goal.returns-then-self-eq-NO_ZONE

@@ -12,7 +12,6 @@ use Rattle.moment.specs.Held.{held}
 use Rattle.moment.specs.Ranges.{Sane}
 use Rattle.moment.proofs.Bounds.{sane_shift}
 use Rattle.moment.proofs.Ways.{sfits, back, back_pos, month_number, sum_abs}
-use borrow.Author.Rules.{rules}
 use Rattle.moment.proofs.Moment.shift.Goals as goal
 use Rattle.moment.proofs.Moment.shift.Tie as tie
 use Rattle.moment.proofs.Moment.shift.Lts as lts

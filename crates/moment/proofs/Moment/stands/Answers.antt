@@ -1,5 +1,4 @@
 -- `moment::Moment::stands` meets its contract.
-use borrow.Author.Rules.{rules}
 use Rattle.moment.proofs.Moment.stands.Goals as goal
 
 pub returns-then-self : goal.returns-then-self

@@ -4,7 +4,6 @@ use Rattle.moment.specs.Held.{held}
 use Rattle.real.proofs.Literals.{nil}
 use Rattle.moment.proofs.Bounds.{at_start, start_kept}
 use Rattle.moment.proofs.Chains.{filled, then_fill}
-use borrow.Author.Rules.{rules}
 use Rattle.moment.proofs.Moment.start_of_day.Goals as goal
 
 pub returns : goal.returns

@@ -4,7 +4,6 @@ use Rattle.moment.specs.Held.{held}
 use Rattle.moment.specs.Steps.{first_of_month}
 use Rattle.moment.proofs.Bounds.{month_kept}
 use Rattle.moment.proofs.Chains.{filled, then_fill}
-use borrow.Author.Rules.{rules}
 use Rattle.moment.proofs.Moment.start_of_month.Goals as goal
 
 pub returns : goal.returns

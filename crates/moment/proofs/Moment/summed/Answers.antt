@@ -3,7 +3,6 @@ use mathlib.Core.Path.{ap, ◌∙◌}
 use Rattle.rules.specs.Moments.{set_utc}
 use Rattle.moment.specs.Held.{held}
 use Rattle.moment.proofs.Sums.{sums_zoneless, sums_zoned}
-use borrow.Author.Rules.{rules}
 use Rattle.moment.proofs.Moment.summed.Goals as goal
 
 pub returns-then-zone-eq-NO_ZONE : goal.returns-then-zone-eq-NO_ZONE

@@ -2,7 +2,6 @@
 use Rattle.real.proofs.Literals.{nil}
 use Rattle.moment.specs.Held.{held}
 use Rattle.moment.proofs.Sums.{time_known, time_not}
-use borrow.Author.Rules.{rules}
 use Rattle.moment.proofs.Moment.time_meant.Goals as goal
 
 pub returns-then-self : goal.returns-then-self

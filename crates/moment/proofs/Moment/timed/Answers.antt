@@ -5,7 +5,6 @@ use Rattle.rules.specs.Moments.{Moment, set_time, set_timed, set_zone, set_utc}
 use Rattle.moment.proofs.Bounds.{after_timed}
 use Rattle.moment.proofs.Chains.{made}
 use Rattle.moment.proofs.Steps.{timed_utc, timed_other}
-use borrow.Author.Rules.{rules}
 use Rattle.moment.proofs.Moment.timed.Goals as goal
 
 pub returns-then-t : goal.returns-then-t

@@ -10,7 +10,6 @@ use Rattle.moment.specs.Held.{held}
 use Rattle.moment.specs.Ranges.{most_before}
 use Rattle.moment.proofs.Chains.{then_fill, then_move, moved_as}
 use Rattle.moment.proofs.Modifiers.{step, weekday_is}
-use borrow.Author.Rules.{rules}
 use Rattle.moment.proofs.Moment.to_weekday.Goals as goal
 
 pub moved-requires : goal.moved-requires

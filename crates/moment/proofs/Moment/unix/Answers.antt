@@ -8,7 +8,6 @@ use Rattle.real.proofs.Epoch.{unix_ms}
 use Rattle.moment.specs.Held.{held}
 use Rattle.moment.proofs.Chains.{answered, refused}
 use Rattle.moment.proofs.Modifiers.{unix_known, unix_out, unix_in}
-use borrow.Author.Rules.{rules}
 use Rattle.moment.proofs.Moment.unix.Goals as goal
 
 pub returns-then-not-self : goal.returns-then-not-self

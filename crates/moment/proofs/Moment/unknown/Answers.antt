@@ -1,6 +1,5 @@
 -- `moment::Moment::unknown` meets its contract.
 use Rattle.real.proofs.Literals.{nil}
-use borrow.Author.Rules.{rules}
 use Rattle.moment.proofs.Moment.unknown.Goals as goal
 
 pub returns : goal.returns

@@ -11,7 +11,6 @@ use Rattle.moment.specs.Held.{held}
 use Rattle.moment.specs.Ranges.{most_before}
 use Rattle.moment.proofs.Chains.{same, then_move, move_fill, moved_as, no_move, filled_as}
 use Rattle.moment.proofs.Modifiers.{step, utc_stays, utc_is}
-use borrow.Author.Rules.{rules}
 use Rattle.moment.proofs.Moment.utc.Goals as goal
 use Rattle.moment.proofs.Moment.utc.Tie as tie
 use Rattle.moment.proofs.Moment.utc.Lts as lts

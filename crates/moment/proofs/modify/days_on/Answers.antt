@@ -1,7 +1,6 @@
 -- `moment::modify::days_on` meets its contract.
 use native.Mathlib.Omega.{arith}
 use Rattle.moment.proofs.Modifiers.{on_early, on_next, on_this}
-use borrow.Author.Rules.{rules}
 use Rattle.moment.proofs.modify.days_on.Goals as goal
 
 pub returns-then-t-lt-SUNDAY : goal.returns-then-t-lt-SUNDAY

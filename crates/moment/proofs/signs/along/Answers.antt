@@ -4,7 +4,6 @@ use mathlib.Core.Bool.{Bool, true}
 use native.Mathlib.Omega.{arith}
 use Rattle.rules.specs.Modifiers.{signed}
 use Rattle.moment.proofs.Ways.{back, back_pos, sfits, negated, abs_signed}
-use borrow.Author.Rules.{rules}
 use Rattle.moment.proofs.signs.along.Goals as goal
 
 pub overflow_sub-result : goal.overflow_sub-result

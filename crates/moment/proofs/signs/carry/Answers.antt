@@ -5,9 +5,7 @@ use lib.IntN.{pos, ◌-ℤ◌}
 use mir.Syntax.{w64}
 use mir.ValLaws.{to_z-of_z}
 use Rattle.moment.proofs.Ways.{Quotient, month_up, month_down}
-use borrow.Author.Rules.{rules}
 use Rattle.moment.proofs.signs.carry.Goals as goal
-use Rattle.moment.proofs.signs.carry.Tie as tie
 use Rattle.moment.proofs.signs.carry.Lts as lts
 use Rattle.moment.proofs.signs.carry.Reads as reads
 

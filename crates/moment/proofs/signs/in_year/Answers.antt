@@ -9,7 +9,6 @@ use mir.ValLaws.{to_z-of_z}
 use Rattle.rules.specs.Basics.{move}
 use Rattle.rules.specs.Writing.{floor_div}
 use Rattle.moment.proofs.Ways.{back, back_pos, carried, months_fit, number_high}
-use borrow.Author.Rules.{rules}
 use Rattle.moment.proofs.signs.in_year.Goals as goal
 use Rattle.moment.proofs.signs.in_year.Tie as tie
 use Rattle.moment.proofs.signs.in_year.Lts as lts

@@ -4,9 +4,7 @@ use native.Mathlib.Omega.{arith}
 use mir.Syntax.{w64}
 use mir.ValLaws.{to_z-of_z}
 use Rattle.moment.proofs.Ways.{back_pos, Size, below_zero, from_zero}
-use borrow.Author.Rules.{rules}
 use Rattle.moment.proofs.signs.way_of.Goals as goal
-use Rattle.moment.proofs.signs.way_of.Tie as tie
 use Rattle.moment.proofs.signs.way_of.Lts as lts
 use Rattle.moment.proofs.signs.way_of.Reads as reads
 
