@@ -1,4 +1,4 @@
--- `days::day_back` takes nothing from 0: the day that is found back is the day of the instant.
+-- `test_days::day_back` takes nothing from 0: the day that is found back is the day of the instant.
 use native.Mathlib.Omega.{arith}
 use Rattle.calendar.proofs.Instants.{date_of_lem, day_low, day_zero_lem}
 use Rattle.test_days.proofs.day_back.Goals as goal

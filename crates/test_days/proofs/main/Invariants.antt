@@ -1,4 +1,4 @@
--- `days::main` is safe and ends. The measure is the days that are left.
+-- `test_days::main` is safe and ends. The measure is the days that are left.
 use Prim.Native.Nat.{◌-◌, ◌≤◌}
 use Rattle.test_days.proofs.main.Given as goal
 

@@ -1,4 +1,4 @@
--- `days::walked` is safe and ends. The measure is the days that are left.
+-- `test_days::walked` is safe and ends. The measure is the days that are left.
 use Prim.Native.Nat.{◌-◌, ◌≤◌, ◌<◌}
 use Rattle.test_days.specs.Reduced.{Reduced}
 use Rattle.test_days.proofs.walked.Given as goal

@@ -1,4 +1,4 @@
--- `numbers::bits_of` meets its contract. Assumes nothing.
+-- `test_numbers::bits_of` meets its contract. Assumes nothing.
 use Prim.Native.Nat.{◌-◌, ◌≤◌}
 use lib.ListN.{length}
 use Rattle.test_numbers.proofs.bits_of.Given as goal

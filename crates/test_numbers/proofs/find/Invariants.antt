@@ -1,4 +1,4 @@
--- `numbers::find` meets its contract. Assumes nothing.
+-- `test_numbers::find` meets its contract. Assumes nothing.
 use Prim.Native.Nat.{◌-◌, ◌≤◌}
 use lib.ListN.{length}
 use Rattle.test_numbers.proofs.find.Given as goal

@@ -1,4 +1,4 @@
--- `numbers::fixed` meets its contract. Assumes nothing.
+-- `test_numbers::fixed` meets its contract. Assumes nothing.
 use Rattle.test_numbers.proofs.fixed.Given as goal
 
 abbrev pub invariant-loop-place : goal.invariant-loop-place

@@ -1,4 +1,4 @@
--- `numbers::float_of` meets its contract. Assumes nothing.
+-- `test_numbers::float_of` meets its contract. Assumes nothing.
 use Prim.Native.Nat.{◌*◌, ◌^◌, ◌%◌}
 use borrow.Author.Tests.{le-ltb}
 use lib.Ieee.{binary64}

@@ -1,4 +1,4 @@
--- `numbers::nine` meets its contract. Assumes nothing.
+-- `test_numbers::nine` meets its contract. Assumes nothing.
 use mathlib.Core.Path.{◌≡◌, refl, sym}
 use lib.Ieee.{binary64, of_bits, of_int, round}
 use Rattle.rules.specs.Floats.{number}

@@ -1,4 +1,4 @@
--- `numbers::take` meets its contract. Assumes nothing.
+-- `test_numbers::take` meets its contract. Assumes nothing.
 use Prim.Native.Nat.{◌-◌, ◌≤◌}
 use lib.ListN.{length}
 use Rattle.test_numbers.proofs.take.Given as goal

@@ -1,4 +1,4 @@
--- `numbers::three` meets its contract. Assumes nothing.
+-- `test_numbers::three` meets its contract. Assumes nothing.
 use mathlib.Core.Path.{◌≡◌, refl, sym, ◌∙◌}
 use lib.Ieee.{binary64, of_bits, of_int, round}
 use Rattle.rules.specs.Floats.{number}
