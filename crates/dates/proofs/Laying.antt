@@ -1,13 +1,12 @@
 -- Texts laid in the output's buffer. Assumes nothing.
-use Prim.Native.Nat.{ℕ, suc, ◌+◌, ◌-◌, ◌≤◌, ◌<◌}
+use Prim.Native.Nat.{ℕ, ◌+◌, ◌-◌, ◌≤◌, ◌<◌}
 use mathlib.Core.Bool.{true}
 use mathlib.Core.Path.{◌≡◌, sym, ap, ◌∙◌}
 use mathlib.Core.List.{List, [], ◌∷◌, ◌++◌, append_assoc}
-use native.Mathlib.Numerals.{add-one}
 use native.Mathlib.Omega.{arith}
 use lib.Dec.{leb}
-use lib.ListN.{length, get_or, set, take, drop, drop_of_length-le, length-append, length-drop, take-append-drop}
-use lib.Seq.{sets, sets-eq, drop-cons, drop-drop, drop-append-le, length-take-le}
+use lib.ListN.{length, take, drop, length-append, length-drop, take-append-drop}
+use lib.Seq.{sets, sets-eq, drop-drop, drop-append-le, length-take-le}
 use borrow.Rule.Slice.PartMut.{mid_of, put_mid}
 use borrow.Author.Tests.{le-leb}
 use Rattle.rules.specs.Calls.{text, answered, after}
@@ -18,15 +17,6 @@ use Rattle.digits.specs.Writers.{Laid}
 use Rattle.digits.proofs.Buffer.{laid_then, laid_length}
 use Rattle.lines.proofs.Short.{line_short}
 use Rattle.dates.specs.Answers.{text_length, line_text}
-
--- byte by byte: one step at a place, and the end
-pub text_on : (new s : List ℕ) (at i : ℕ) → i < length s → sets new (at + i) (drop i s) ≡ sets (set new (at + i) (get_or s i 0)) (at + (i + 1)) (drop (i + 1) s)
-text_on new s at i h =
-    let e : at + (i + 1) ≡ suc (at + i) = omega arith in
-    rw (e, add-one, drop-cons s i 0 h)
-
-pub text_end : (new s : List ℕ) (at i : ℕ) → length s ≤ i → sets new (at + i) (drop i s) ≡ new
-text_end new s at i h = rw (drop_of_length-le s h)
 
 -- ---- a text at the front of a part of the buffer that was lent, and is back
 mid_laid : (out t : List ℕ) (used k : ℕ) → length t ≤ k → used + k ≤ length out → put_mid used k out (t ++ drop (length t) (mid_of used k out)) ≡ sets out used t

@@ -14,6 +14,7 @@ ghost use Rattle.dates.specs.Buffers.{Within, Same, HasRoom, Keeps, Holds};
 
 use lines::First;
 use rules::{Answer, Setting};
+use std::io::{Stderr, Stdin, Stdout};
 
 const NEWLINE: u8 = 10;
 
@@ -138,14 +139,21 @@ struct Run {
 }
 
 // One block of the input.
-fn take(t: Run, block: &[u8], kept: &mut [u8], room: &mut [u8; 8192], out: &mut [u8]) -> Run
+fn take(
+    stdout: &mut Stdout,
+    t: Run,
+    block: &[u8],
+    kept: &mut [u8],
+    room: &mut [u8; 8192],
+    out: &mut [u8],
+) -> Run
     requires { Within t kept.old out.old }
     ensures within { Within result kept.new out.new }
     ensures holds { Holds result kept.new (last_after (take t.have kept.old) block.now) }
 {
     if t.begun {
         if t.have == 0 {
-            return take_from(t, block, 0, kept, room, out);
+            return take_from(stdout, t, block, 0, kept, room, out);
         }
     }
     let end = line_end(block, 0);
@@ -154,12 +162,13 @@ fn take(t: Run, block: &[u8], kept: &mut [u8], room: &mut [u8; 8192], out: &mut 
     if block.len() <= end {
         return r;
     }
-    r = close(r, kept, room, out);
-    take_from(r, block, end + 1, kept, room, out)
+    r = close(stdout, r, kept, room, out);
+    take_from(stdout, r, block, end + 1, kept, room, out)
 }
 
 // The lines of a block from a place on; what begins a line at its end is kept.
 fn take_from(
+    stdout: &mut Stdout,
     t: Run,
     block: &[u8],
     from: usize,
@@ -175,7 +184,7 @@ fn take_from(
     let mut r = t;
     let mut at = from;
     while !r.over {
-        r = make_room(r, out);
+        r = make_room(stdout, r, out);
         if r.over {
             return r;
         }
@@ -207,11 +216,11 @@ fn keep(kept: &mut [u8], have: usize, part: &[u8]) -> usize
 }
 
 // The line that is kept, at its end.
-fn close(t: Run, kept: &[u8], room: &mut [u8; 8192], out: &mut [u8]) -> Run
+fn close(stdout: &mut Stdout, t: Run, kept: &[u8], room: &mut [u8; 8192], out: &mut [u8]) -> Run
     requires { Within t kept.now out.old }
     ensures { Within result kept.now out.new }
 {
-    let mut r = make_room(t, out);
+    let mut r = make_room(stdout, t, out);
     let have = t.have;
     r.have = 0;
     if t.begun {
@@ -233,7 +242,7 @@ fn close(t: Run, kept: &[u8], room: &mut [u8; 8192], out: &mut [u8]) -> Run
 }
 
 // Writes the output out where an answer might find no room.
-fn make_room(t: Run, out: &[u8]) -> Run
+fn make_room(stdout: &mut Stdout, t: Run, out: &[u8]) -> Run
     requires used_in { t.used ≤ length out.now }
     requires holds_answer { 16384 < length out.now }
     ensures { Same t result × HasRoom result out.now }
@@ -242,11 +251,11 @@ fn make_room(t: Run, out: &[u8]) -> Run
     if has_room(out, used) {
         return t;
     }
-    flush(t, out)
+    flush(stdout, t, out)
 }
 
 // Writes out what stands in the output's buffer. What comes after a part that could not be written is not written.
-fn flush(t: Run, out: &[u8]) -> Run
+fn flush(stdout: &mut Stdout, t: Run, out: &[u8]) -> Run
     requires { t.used ≤ length out.now }
     ensures { Same t result × (result.used ≡ 0) }
 {
@@ -256,7 +265,7 @@ fn flush(t: Run, out: &[u8]) -> Run
     if t.unwritten {
         return r;
     }
-    if !io::write_all(libc::STDOUT_FILENO, &out[..used]) {
+    if !streams::write_all(stdout, &out[..used]) {
         r.unwritten = true;
         r.over = true;
     }
@@ -264,7 +273,7 @@ fn flush(t: Run, out: &[u8]) -> Run
 }
 
 // The end of the input: what is kept is its last line, and a missing first line is a bad one.
-fn finish(t: Run, kept: &[u8], room: &mut [u8; 8192], out: &mut [u8]) -> Run
+fn finish(stdout: &mut Stdout, t: Run, kept: &[u8], room: &mut [u8; 8192], out: &mut [u8]) -> Run
     requires { Within t kept.now out.old }
     ensures { Within result kept.now out.new }
 {
@@ -275,13 +284,15 @@ fn finish(t: Run, kept: &[u8], room: &mut [u8; 8192], out: &mut [u8]) -> Run
             return r;
         }
     }
-    r = close(t, kept, room, out);
+    r = close(stdout, t, kept, room, out);
     r.over = true;
     r
 }
 
 // Reads a block, and answers its lines.
 fn read_block(
+    stdin: &mut Stdin,
+    stdout: &mut Stdout,
     t: Run,
     block: &mut [u8],
     kept: &mut [u8],
@@ -291,22 +302,27 @@ fn read_block(
     requires { Within t kept.old out.old }
     ensures { Within result kept.new out.new }
 {
-    let got = libc::read(libc::STDIN_FILENO, block);
-    if got < 0 {
+    let Some(n) = streams::read(stdin, block) else {
         let mut r = t;
         r.over = true;
         r.unread = true;
         return r;
-    }
-    let n = io::count(got, block);
+    };
     if n == 0 {
-        return finish(t, kept, room, out);
+        return finish(stdout, t, kept, room, out);
     }
-    take(t, &block[..n], kept, room, out)
+    take(stdout, t, &block[..n], kept, room, out)
 }
 
 // Reads all blocks. The turns end, as Rattle asks of every loop: after more bytes than any input has.
-fn read_all(block: &mut [u8], kept: &mut [u8], room: &mut [u8; 8192], out: &mut [u8]) -> Run
+fn read_all(
+    stdin: &mut Stdin,
+    stdout: &mut Stdout,
+    block: &mut [u8],
+    kept: &mut [u8],
+    room: &mut [u8; 8192],
+    out: &mut [u8],
+) -> Run
     requires { 16384 < length out.old }
     ensures { result.used ≤ length out.new }
 {
@@ -324,7 +340,7 @@ fn read_all(block: &mut [u8], kept: &mut [u8], room: &mut [u8; 8192], out: &mut 
     };
     let mut turns = u64::MAX;
     while turns > 0 {
-        t = read_block(t, block, kept, room, out);
+        t = read_block(stdin, stdout, t, block, kept, room, out);
         if t.over {
             return t;
         }
@@ -334,26 +350,33 @@ fn read_all(block: &mut [u8], kept: &mut [u8], room: &mut [u8; 8192], out: &mut 
 }
 
 // Writes out what is left, and says what could not be read or written.
-fn end(t: Run, out: &[u8])
+fn end(stdout: &mut Stdout, stderr: &mut Stderr, t: Run, out: &[u8])
     requires { t.used ≤ length out.now }
 {
-    let r = flush(t, out);
+    let r = flush(stdout, t, out);
     if r.unread {
-        io::write_all(libc::STDERR_FILENO, b"dates: the input cannot be read\n");
+        streams::write_all(stderr, b"dates: the input cannot be read\n");
     }
     if r.unwritten {
-        io::write_all(
-            libc::STDERR_FILENO,
-            b"dates: the output cannot be written\n",
-        );
+        streams::write_all(stderr, b"dates: the output cannot be written\n");
     }
 }
 
-fn main() {
+fn main(rt: HostRuntime) {
+    let mut stdin = rt.stdin();
+    let mut stdout = rt.stdout();
+    let mut stderr = rt.stderr();
     let mut block = [0u8; 65536];
     let mut kept = [0u8; 8193];
     let mut room = [0u8; 8192];
     let mut out = [0u8; 65536];
-    let t = read_all(&mut block, &mut kept, &mut room, &mut out);
-    end(t, &out);
+    let t = read_all(
+        &mut stdin,
+        &mut stdout,
+        &mut block,
+        &mut kept,
+        &mut room,
+        &mut out,
+    );
+    end(&mut stdout, &mut stderr, t, &out);
 }

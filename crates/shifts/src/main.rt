@@ -12,11 +12,11 @@ ghost use Rattle.rules.specs.Calls.{modifiers_bad};
 ghost use Rattle.moment.specs.Held.{held};
 ghost use Rattle.moment.specs.Ranges.{Sane, After};
 
-use libc::{STDIN_FILENO, STDOUT_FILENO};
 use modifiers::buffer;
 use modifiers::buffer::Fault;
 use moment::{Moment, Step};
 use rules::{Given, Refusal};
+use std::io::{Stdin, Stdout};
 
 // The last millisecond that the clock may say, and the most seconds of an offset.
 const CLOCK_LIMIT: u64 = 253402300799999;
@@ -33,14 +33,16 @@ pub struct State {
     pub seconds: u64,
 }
 
-fn main() {
+fn main(rt: HostRuntime) {
+    let mut stdin = rt.stdin();
+    let mut stdout = rt.stdout();
     let mut block = [0u8; 65536];
     let mut line = [0u8; 8192];
-    run(&mut block, &mut line);
+    run(&mut stdin, &mut stdout, &mut block, &mut line);
 }
 
-// Reads block after block until the input ends.
-fn run(block: &mut [u8], line: &mut [u8]) {
+// Reads block after block until the input ends, or cannot be read.
+fn run(stdin: &mut Stdin, stdout: &mut Stdout, block: &mut [u8], line: &mut [u8]) {
     let mut s = State {
         have: 0,
         begun: false,
@@ -50,36 +52,37 @@ fn run(block: &mut [u8], line: &mut [u8]) {
     };
     let mut turns = u64::MAX;
     while turns > 0 {
-        let got = libc::read(STDIN_FILENO, block);
-        let n = io::count(got, block);
+        let Some(n) = streams::read(stdin, block) else {
+            return;
+        };
         if n == 0 {
             return;
         }
-        s = take(&block[..n], line, s);
+        s = take(stdout, &block[..n], line, s);
         turns -= 1;
     }
 }
 
-fn take(block: &[u8], line: &mut [u8], s: State) -> State
+fn take(stdout: &mut Stdout, block: &[u8], line: &mut [u8], s: State) -> State
     requires { (s.have ≤ length line.old) × (s.clock ≤ 253402300799999) × (s.seconds ≤ 86399) }
     ensures { (result.have ≤ length line.new) × (result.clock ≤ 253402300799999) × (result.seconds ≤ 86399) }
 {
     let mut t = s;
     let mut i = 0;
     while i < block.len() {
-        t = feed(block[i], line, t);
+        t = feed(stdout, block[i], line, t);
         i += 1;
     }
     t
 }
 
-fn feed(b: u8, line: &mut [u8], s: State) -> State
+fn feed(stdout: &mut Stdout, b: u8, line: &mut [u8], s: State) -> State
     requires { (s.have ≤ length line.old) × (s.clock ≤ 253402300799999) × (s.seconds ≤ 86399) }
     ensures { (result.have ≤ length line.new) × (result.clock ≤ 253402300799999) × (result.seconds ≤ 86399) }
 {
     let have = keep(b, line, s.have);
     if b == b'\n' {
-        return ended(&line[..have], s);
+        return ended(stdout, &line[..have], s);
     }
     let mut t = s;
     t.have = have;
@@ -110,12 +113,12 @@ fn kept(b: u8) -> u8 {
 }
 
 // A line is there: the first, or a call.
-fn ended(line: &[u8], s: State) -> State
+fn ended(stdout: &mut Stdout, line: &[u8], s: State) -> State
     requires { (s.clock ≤ 253402300799999) × (s.seconds ≤ 86399) }
     ensures { (result.have ≡ 0) × (result.clock ≤ 253402300799999) × (result.seconds ≤ 86399) }
 {
     if s.begun {
-        row(line, s.clock, offset(s.west, s.seconds));
+        row(stdout, line, s.clock, offset(s.west, s.seconds));
         let mut t = s;
         t.have = 0;
         return t;
@@ -172,80 +175,80 @@ fn offset(west: bool, seconds: u64) -> i64
 }
 
 // A call: its name, its time value and its modifiers, each ended by a zero byte.
-fn row(s: &[u8], clock: u64, offset: i64)
+fn row(stdout: &mut Stdout, s: &[u8], clock: u64, offset: i64)
     requires { (clock ≤ 253402300799999) × (nat_abs offset ≤ 86399) }
 {
     let from = buffer::end_of(s, 0) + 1;
     let end = buffer::end_of(s, from);
     if s.len() <= end {
-        say(b"refused 2\n");
+        say(stdout, b"refused 2\n");
         return;
     }
-    call(&s[from..end], &s[end + 1..], clock, offset);
+    call(stdout, &s[from..end], &s[end + 1..], clock, offset);
 }
 
 // Refusals 2 and 3 come first.
-fn call(value: &[u8], rest: &[u8], clock: u64, offset: i64)
+fn call(stdout: &mut Stdout, value: &[u8], rest: &[u8], clock: u64, offset: i64)
     requires { (clock ≤ 253402300799999) × (nat_abs offset ≤ 86399) }
 {
     if 255 < value.len() {
-        say(b"refused 2\n");
+        say(stdout, b"refused 2\n");
         return;
     }
     match buffer::fault_of(rest) {
-        Fault::Shape => say(b"refused 2\n"),
-        Fault::Bytes => say(b"refused 3\n"),
-        Fault::Nothing => read(value, rest, clock, offset),
+        Fault::Shape => say(stdout, b"refused 2\n"),
+        Fault::Bytes => say(stdout, b"refused 3\n"),
+        Fault::Nothing => read(stdout, value, rest, clock, offset),
     }
 }
 
-fn read(value: &[u8], rest: &[u8], clock: u64, offset: i64)
+fn read(stdout: &mut Stdout, value: &[u8], rest: &[u8], clock: u64, offset: i64)
     requires { (length value.now ≤ 255) × (modifiers_bad rest.now ≡ false) × (clock ≤ 253402300799999) × (nat_abs offset ≤ 86399) }
 {
     if !text::is_ascii(value) {
-        say(b"refused 3\n");
+        say(stdout, b"refused 3\n");
         return;
     }
     match reading::time_value(Given::Bytes, value, clock) {
-        Step::Next(p) => shifted(rest, offset, p),
-        Step::Refused(r) => refused(r),
+        Step::Next(p) => shifted(stdout, rest, offset, p),
+        Step::Refused(r) => refused(stdout, r),
     }
 }
 
-fn shifted(rest: &[u8], offset: i64, p: Moment)
+fn shifted(stdout: &mut Stdout, rest: &[u8], offset: i64, p: Moment)
     requires { (modifiers_bad rest.now ≡ false) × (nat_abs offset ≤ 86399) × After 0 (held p) }
 {
     match modifiers::modified(offset, rest, p) {
-        Step::Next(q) => in_range(q),
-        Step::Refused(r) => refused(r),
+        Step::Next(q) => in_range(stdout, q),
+        Step::Refused(r) => refused(stdout, r),
     }
 }
 
-fn in_range(p: Moment)
+fn in_range(stdout: &mut Stdout, p: Moment)
     requires { Sane (held p) }
 {
     match p.ranged() {
-        Step::Next(q) => float(real::julian_real(q.ms)),
-        Step::Refused(r) => refused(r),
+        Step::Next(q) => float(stdout, real::julian_real(q.ms)),
+        Step::Refused(r) => refused(stdout, r),
     }
 }
 
 // No answer is a NaN.
-fn float(x: f64) {
+fn float(stdout: &mut Stdout, x: f64) {
     if x == x {
         let mut text = [b'\n'; 17];
         digits::put_hex(&mut text, 0, x);
-        say(&text);
+        say(stdout, &text);
     }
 }
 
-fn refused(r: Refusal) {
+fn refused(stdout: &mut Stdout, r: Refusal) {
     match r {
-        Refusal::Decimal => say(b"refused 5\n"),
-        _ => say(b"null\n"),
+        Refusal::Decimal => say(stdout, b"refused 5\n"),
+        _ => say(stdout, b"null\n"),
     }
 }
 
-fn say(text: &[u8]) {
-    io::write_all(STDOUT_FILENO, text);
+fn say(stdout: &mut Stdout, text: &[u8]) {
+    streams::write_all(stdout, text);
 }

@@ -9,7 +9,7 @@ ghost use Rattle.std.specs.Prelude.{◌≤◌, ◌<◌};
 ghost use Rattle.calendar.specs.Ranges.{InRange};
 ghost use Rattle.test_days.specs.Reduced.{Reduced};
 
-use libc::STDOUT_FILENO;
+use std::io::Stdout;
 
 // The millisecond 0 as held: noon of -4713-11-24, here the day 0.
 const NOON: u64 = 9223372036854775808;
@@ -127,31 +127,32 @@ fn walked(first: u32) -> Found
 }
 
 // A year as people write it, with a minus before 0.
-fn print_year(year: u32) {
+fn print_year(stdout: &mut Stdout, year: u32) {
     if year < YEAR_0 {
-        io::write_all(STDOUT_FILENO, b"-");
-        io::print_decimal(STDOUT_FILENO, (YEAR_0 - year) as u64);
+        streams::write_all(stdout, b"-");
+        streams::print_decimal(stdout, (YEAR_0 - year) as u64);
     } else {
-        io::print_decimal(STDOUT_FILENO, (year - YEAR_0) as u64);
+        streams::print_decimal(stdout, (year - YEAR_0) as u64);
     }
 }
 
 // A number after a space.
-fn print_next(n: u64) {
-    io::write_all(STDOUT_FILENO, b" ");
-    io::print_decimal(STDOUT_FILENO, n);
+fn print_next(stdout: &mut Stdout, n: u64) {
+    streams::write_all(stdout, b" ");
+    streams::print_decimal(stdout, n);
 }
 
-fn main() {
+fn main(rt: HostRuntime) {
+    let mut stdout = rt.stdout();
     let mut day = 0;
     while day <= LAST {
         let found = walked(day);
         let digests = found.digests;
-        print_year(year_of(day));
-        print_next((found.next - day) as u64);
-        print_next(digests.a);
-        print_next(digests.b);
-        io::write_all(STDOUT_FILENO, b"\n");
+        print_year(&mut stdout, year_of(day));
+        print_next(&mut stdout, (found.next - day) as u64);
+        print_next(&mut stdout, digests.a);
+        print_next(&mut stdout, digests.b);
+        streams::write_all(&mut stdout, b"\n");
         day = found.next;
     }
 }

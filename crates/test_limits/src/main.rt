@@ -23,64 +23,95 @@
 
 ghost use Rattle.std.specs.Prelude.{◌≤◌, length};
 
-use libc::STDIN_FILENO;
 use rules::{Answer, Given, Refusal, Setting};
+use std::io::{Stdin, Stdout};
 
 mod fields;
 mod output;
 
 use fields::Which;
 
-fn main() {
+fn main(rt: HostRuntime) {
+    let mut stdin = rt.stdin();
+    let mut stdout = rt.stdout();
     let mut block = [0u8; 65536];
     let mut line = [0u8; 32768];
     let mut bytes = [0u8; 32768];
     let mut buffer = [0u8; 16384];
     output::fill(&mut buffer, 16384);
-    run(&mut block, &mut line, &mut bytes, &mut buffer);
+    run(
+        &mut stdin,
+        &mut stdout,
+        &mut block,
+        &mut line,
+        &mut bytes,
+        &mut buffer,
+    );
 }
 
-// Reads block after block until the input ends.
-fn run(block: &mut [u8], line: &mut [u8], bytes: &mut [u8], buffer: &mut [u8]) {
+// Reads block after block until the input ends, or cannot be read.
+fn run(
+    stdin: &mut Stdin,
+    stdout: &mut Stdout,
+    block: &mut [u8],
+    line: &mut [u8],
+    bytes: &mut [u8],
+    buffer: &mut [u8],
+) {
     let mut have = 0;
     let mut turns = u64::MAX;
     while turns > 0 {
-        let got = libc::read(STDIN_FILENO, block);
-        let n = io::count(got, block);
+        let Some(n) = streams::read(stdin, block) else {
+            return;
+        };
         if n == 0 {
             return;
         }
-        have = take(&block[..n], line, have, bytes, buffer);
+        have = take(stdout, &block[..n], line, have, bytes, buffer);
         turns -= 1;
     }
 }
 
 // A block, after the first `have` bytes of a line: how many bytes of a line it leaves.
-fn take(block: &[u8], line: &mut [u8], have: usize, bytes: &mut [u8], buffer: &mut [u8]) -> usize
+fn take(
+    stdout: &mut Stdout,
+    block: &[u8],
+    line: &mut [u8],
+    have: usize,
+    bytes: &mut [u8],
+    buffer: &mut [u8],
+) -> usize
     requires { have ≤ length line.old }
     ensures { result ≤ length line.new }
 {
     let mut n = have;
     let mut i = 0;
     while i < block.len() {
-        n = feed(block[i], line, n, bytes, buffer);
+        n = feed(stdout, block[i], line, n, bytes, buffer);
         i += 1;
     }
     n
 }
 
 // One byte: a newline ends the line. A line that fills its room may have lost bytes, and is a bad one.
-fn feed(b: u8, line: &mut [u8], have: usize, bytes: &mut [u8], buffer: &mut [u8]) -> usize
+fn feed(
+    stdout: &mut Stdout,
+    b: u8,
+    line: &mut [u8],
+    have: usize,
+    bytes: &mut [u8],
+    buffer: &mut [u8],
+) -> usize
     requires { have ≤ length line.old }
     ensures { result ≤ length line.new }
 {
     if b == b'\n' {
         if have == line.len() {
-            output::say(b"bad line\n");
+            output::say(stdout, b"bad line\n");
             return 0;
         }
-        if !row(&line[..have], bytes, buffer) {
-            output::say(b"bad line\n");
+        if !row(stdout, &line[..have], bytes, buffer) {
+            output::say(stdout, b"bad line\n");
         }
         return 0;
     }
@@ -92,7 +123,7 @@ fn feed(b: u8, line: &mut [u8], have: usize, bytes: &mut [u8], buffer: &mut [u8]
 }
 
 // A line and its answer. False, with nothing written, if it names no call.
-fn row(line: &[u8], bytes: &mut [u8], buffer: &mut [u8]) -> bool {
+fn row(stdout: &mut Stdout, line: &[u8], bytes: &mut [u8], buffer: &mut [u8]) -> bool {
     let head = fields::head_of(line);
     if !head.good {
         return false;
@@ -102,18 +133,25 @@ fn row(line: &[u8], bytes: &mut [u8], buffer: &mut [u8]) -> bool {
     let which = head.which;
     match which {
         Which::Unknown => false,
-        Which::Strftime => formatted(head.set, head.room, rest, bytes, buffer),
+        Which::Strftime => formatted(stdout, head.set, head.room, rest, bytes, buffer),
         _ => {
             if fields::tabs(rest) != 1 {
                 return false;
             }
-            valued(head.set, head.room, which, 0, rest, bytes, buffer)
+            valued(stdout, head.set, head.room, which, 0, rest, bytes, buffer)
         }
     }
 }
 
 // strftime's format, then the rest of its line.
-fn formatted(set: Setting, room: usize, rest: &[u8], bytes: &mut [u8], buffer: &mut [u8]) -> bool {
+fn formatted(
+    stdout: &mut Stdout,
+    set: Setting,
+    room: usize,
+    rest: &[u8],
+    bytes: &mut [u8],
+    buffer: &mut [u8],
+) -> bool {
     if fields::tabs(rest) != 2 {
         return false;
     }
@@ -125,6 +163,7 @@ fn formatted(set: Setting, room: usize, rest: &[u8], bytes: &mut [u8], buffer: &
         return false;
     }
     valued(
+        stdout,
         set,
         room,
         Which::Strftime,
@@ -137,6 +176,7 @@ fn formatted(set: Setting, room: usize, rest: &[u8], bytes: &mut [u8], buffer: &
 
 // The time value, and what follows it; `format` bytes of a format stand before them in `bytes`.
 fn valued(
+    stdout: &mut Stdout,
     set: Setting,
     room: usize,
     which: Which,
@@ -169,7 +209,7 @@ fn valued(
     let given = first.given;
     let second = last.given;
     let answer = made(set, which, given, second, parts, bytes, &mut buffer[..room]);
-    output::report(answer, buffer);
+    output::report(stdout, answer, buffer);
     true
 }
 

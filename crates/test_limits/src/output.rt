@@ -1,11 +1,11 @@
 // What is written, and the pattern by which every byte of the buffer is known again.
 ghost use Rattle.std.specs.Prelude.{◌≤◌, length};
 
-use libc::STDOUT_FILENO;
 use rules::{Answer, Refusal};
+use std::io::Stdout;
 
-pub fn say(text: &[u8]) {
-    io::write_all(STDOUT_FILENO, text);
+pub fn say(stdout: &mut Stdout, text: &[u8]) {
+    streams::write_all(stdout, text);
 }
 
 // ---- the pattern
@@ -39,81 +39,81 @@ fn is_kept(buffer: &[u8], from: usize) -> bool {
 }
 
 // Says whether every byte from a place on was kept, and lays the pattern again where it was not.
-fn settle(buffer: &mut [u8], from: usize)
+fn settle(stdout: &mut Stdout, buffer: &mut [u8], from: usize)
     requires { from ≤ length buffer.old }
 {
     if is_kept(buffer, from) {
         fill(buffer, from);
-        say(b"\tkept\n");
+        say(stdout, b"\tkept\n");
     } else {
         let end = buffer.len();
         fill(buffer, end);
-        say(b"\ttouched\n");
+        say(stdout, b"\ttouched\n");
     }
 }
 
 // ---- the answer
 
 // The answer, and whether all other bytes of the buffer were kept; they then hold the pattern again.
-pub fn report(answer: Answer, buffer: &mut [u8]) {
+pub fn report(stdout: &mut Stdout, answer: Answer, buffer: &mut [u8]) {
     match answer {
         Answer::Text(n) => {
-            text(buffer, n);
+            text(stdout, buffer, n);
             return;
         }
-        Answer::Integer(n) => integer(n),
-        Answer::Real(x) => real(x),
-        Answer::Refused(r) => refused(r),
+        Answer::Integer(n) => integer(stdout, n),
+        Answer::Real(x) => real(stdout, x),
+        Answer::Refused(r) => refused(stdout, r),
         Answer::NoRoom(n) => {
-            say(b"no room ");
-            io::print_decimal(STDOUT_FILENO, n as u64);
+            say(stdout, b"no room ");
+            streams::print_decimal(stdout, n as u64);
         }
     }
-    settle(buffer, 0);
+    settle(stdout, buffer, 0);
 }
 
 // No text is longer than the buffer.
-fn text(buffer: &mut [u8], n: usize) {
-    say(b"text ");
-    io::print_decimal(STDOUT_FILENO, n as u64);
-    say(b"\t");
+fn text(stdout: &mut Stdout, buffer: &mut [u8], n: usize) {
+    say(stdout, b"text ");
+    streams::print_decimal(stdout, n as u64);
+    say(stdout, b"\t");
     if n <= buffer.len() {
-        escaped(&buffer[..n]);
-        settle(buffer, n);
+        escaped(stdout, &buffer[..n]);
+        settle(stdout, buffer, n);
     } else {
-        say(b"\tlonger than the buffer\n");
+        say(stdout, b"\tlonger than the buffer\n");
     }
 }
 
 // A number with its sign takes at most 20 bytes.
-fn integer(n: i64) {
+fn integer(stdout: &mut Stdout, n: i64) {
     let mut written = [0u8; 20];
-    say(b"integer ");
+    say(stdout, b"integer ");
     if digits::integer_length(n) <= 20 {
         let end = digits::put_integer(&mut written, 0, n);
-        say(&written[..end]);
+        say(stdout, &written[..end]);
     }
 }
 
 // No answer is a NaN.
-fn real(x: f64) {
-    say(b"real ");
+fn real(stdout: &mut Stdout, x: f64) {
+    say(stdout, b"real ");
     if x == x {
-        io::print_hex(STDOUT_FILENO, f64::to_bits(x), 16);
+        streams::print_hex(stdout, f64::to_bits(x), 16);
     } else {
-        say(b"nan");
+        say(stdout, b"nan");
     }
 }
 
 // The number in the table of document 01.
-fn refused(r: Refusal) {
+fn refused(stdout: &mut Stdout, r: Refusal) {
     match r {
-        Refusal::Null => say(b"refused 1"),
-        Refusal::Shape => say(b"refused 2"),
-        Refusal::Bytes => say(b"refused 3"),
-        Refusal::Setting => say(b"refused 4"),
-        Refusal::Decimal => say(b"refused 5"),
-        Refusal::Early => say(b"refused 6"),
+        Refusal::Null => say(stdout, b"refused 1"),
+        Refusal::Shape => say(stdout, b"refused 2"),
+        Refusal::Bytes => say(stdout, b"refused 3"),
+        Refusal::Setting => say(stdout, b"refused 4"),
+        Refusal::Decimal => say(stdout, b"refused 5"),
+        Refusal::Early => say(stdout, b"refused 6"),
     }
 }
 
@@ -141,16 +141,16 @@ fn plain_end(s: &[u8], at: usize) -> usize
     i
 }
 
-fn escaped(s: &[u8]) {
+fn escaped(stdout: &mut Stdout, s: &[u8]) {
     let mut i = 0;
     while i < s.len() {
         let end = plain_end(s, i);
-        say(&s[i..end]);
+        say(stdout, &s[i..end]);
         if end == s.len() {
             return;
         }
-        say(b"\\");
-        io::print_hex(STDOUT_FILENO, wide(s[end]), 2);
+        say(stdout, b"\\");
+        streams::print_hex(stdout, wide(s[end]), 2);
         i = end + 1;
     }
 }

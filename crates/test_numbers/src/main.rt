@@ -11,50 +11,53 @@
 
 ghost use Rattle.std.specs.Prelude.{◌≤◌, ◌<◌, length};
 
-use libc::{STDIN_FILENO, STDOUT_FILENO};
+use std::io::{Stdin, Stdout};
 
-fn main() {
+fn main(rt: HostRuntime) {
+    let mut stdin = rt.stdin();
+    let mut stdout = rt.stdout();
     let mut block = [0u8; 65536];
     let mut line = [0u8; 512];
-    run(&mut block, &mut line);
+    run(&mut stdin, &mut stdout, &mut block, &mut line);
 }
 
-// Reads block after block until the input ends.
-fn run(block: &mut [u8], line: &mut [u8]) {
+// Reads block after block until the input ends, or cannot be read.
+fn run(stdin: &mut Stdin, stdout: &mut Stdout, block: &mut [u8], line: &mut [u8]) {
     let mut have = 0;
     let mut turns = u64::MAX;
     while turns > 0 {
-        let got = libc::read(STDIN_FILENO, block);
-        let n = io::count(got, block);
+        let Some(n) = streams::read(stdin, block) else {
+            return;
+        };
         if n == 0 {
             return;
         }
-        have = take(&block[..n], line, have);
+        have = take(stdout, &block[..n], line, have);
         turns -= 1;
     }
 }
 
 // A block, after the first `have` bytes of a line: how many bytes of a line it leaves.
-fn take(block: &[u8], line: &mut [u8], have: usize) -> usize
+fn take(stdout: &mut Stdout, block: &[u8], line: &mut [u8], have: usize) -> usize
     requires { have ≤ length line.old }
     ensures { result ≤ length line.new }
 {
     let mut n = have;
     let mut i = 0;
     while i < block.len() {
-        n = feed(block[i], line, n);
+        n = feed(stdout, block[i], line, n);
         i += 1;
     }
     n
 }
 
 // One byte: a newline ends the line. Bytes for which a line has no room are dropped.
-fn feed(b: u8, line: &mut [u8], have: usize) -> usize
+fn feed(stdout: &mut Stdout, b: u8, line: &mut [u8], have: usize) -> usize
     requires { have ≤ length line.old }
     ensures { result ≤ length line.new }
 {
     if b == b'\n' {
-        row(&line[..have]);
+        row(stdout, &line[..have]);
         return 0;
     }
     if have < line.len() {
@@ -79,37 +82,37 @@ fn find(s: &[u8], at: usize, b: u8) -> usize
     i
 }
 
-fn row(line: &[u8]) {
+fn row(stdout: &mut Stdout, line: &[u8]) {
     let tab = find(line, 0, b'\t');
     if tab < line.len() {
         let value = &line[tab + 1..];
         match line[0] {
-            b'd' => decimal_row(value),
-            b't' => three(bits_of(value)),
-            b'n' => nine(bits_of(value)),
-            _ => say(b"?"),
+            b'd' => decimal_row(stdout, value),
+            b't' => three(stdout, bits_of(value)),
+            b'n' => nine(stdout, bits_of(value)),
+            _ => say(stdout, b"?"),
         }
     }
-    say(b"\n");
+    say(stdout, b"\n");
 }
 
-fn say(text: &[u8]) {
-    io::write_all(STDOUT_FILENO, text);
+fn say(stdout: &mut Stdout, text: &[u8]) {
+    streams::write_all(stdout, text);
 }
 
-fn decimal_row(text: &[u8]) {
+fn decimal_row(stdout: &mut Stdout, text: &[u8]) {
     match decimal::decimal(text) {
-        decimal::Number::NotOne => say(b"not"),
-        decimal::Number::Over => say(b"over"),
-        decimal::Number::Is(x) => bit_pattern(x),
+        decimal::Number::NotOne => say(stdout, b"not"),
+        decimal::Number::Over => say(stdout, b"over"),
+        decimal::Number::Is(x) => bit_pattern(stdout, x),
     }
 }
 
-fn bit_pattern(x: f64) {
+fn bit_pattern(stdout: &mut Stdout, x: f64) {
     if x == x {
-        io::print_hex(STDOUT_FILENO, f64::to_bits(x), 16);
+        streams::print_hex(stdout, f64::to_bits(x), 16);
     } else {
-        say(b"nan");
+        say(stdout, b"nan");
     }
 }
 
@@ -141,42 +144,42 @@ fn float_of(bits: u64) -> f64 {
     f64::from_bits(bits)
 }
 
-fn three(bits: u64) {
+fn three(stdout: &mut Stdout, bits: u64) {
     let x = float_of(bits);
     if real::below(x, 9007199254740992.0) {
-        minus(bits);
-        fixed(real::thousandths(x), 1000);
+        minus(stdout, bits);
+        fixed(stdout, real::thousandths(x), 1000);
     } else {
-        say(b"?");
+        say(stdout, b"?");
     }
 }
 
-fn nine(bits: u64) {
+fn nine(stdout: &mut Stdout, bits: u64) {
     let x = float_of(bits);
     if 1000000.0 <= x {
         if x < 8388608.0 {
-            fixed(real::billionths(x), 1000000000);
+            fixed(stdout, real::billionths(x), 1000000000);
             return;
         }
     }
-    say(b"?");
+    say(stdout, b"?");
 }
 
-fn minus(bits: u64) {
+fn minus(stdout: &mut Stdout, bits: u64) {
     if bits >= 9223372036854775808 {
-        say(b"-");
+        say(stdout, b"-");
     }
 }
 
 // n / unit as a decimal, with all the places that unit has zeros.
-fn fixed(n: u64, unit: u64)
+fn fixed(stdout: &mut Stdout, n: u64, unit: u64)
     requires { 0 < unit }
 {
-    io::print_decimal(STDOUT_FILENO, n / unit);
-    say(b".");
+    streams::print_decimal(stdout, n / unit);
+    say(stdout, b".");
     let mut place = unit / 10;
     while place > 0 {
-        io::print_decimal(STDOUT_FILENO, n / place % 10);
+        streams::print_decimal(stdout, n / place % 10);
         place = place / 10;
     }
 }

@@ -11,9 +11,9 @@
 
 ghost use Rattle.std.specs.Prelude.{◌≡◌, ◌≤◌, length};
 
-use libc::{STDIN_FILENO, STDOUT_FILENO};
 use modifiers::buffer;
 use rules::{Answer, Given, Setting};
+use std::io::{Stdin, Stdout};
 
 // The last millisecond that the clock may say, and the most seconds of an offset.
 const CLOCK_LIMIT: u64 = 253402300799999;
@@ -29,14 +29,16 @@ pub struct State {
     pub offset: i64,
 }
 
-fn main() {
+fn main(rt: HostRuntime) {
+    let mut stdin = rt.stdin();
+    let mut stdout = rt.stdout();
     let mut block = [0u8; 65536];
     let mut line = [0u8; 8192];
-    run(&mut block, &mut line);
+    run(&mut stdin, &mut stdout, &mut block, &mut line);
 }
 
-// Reads block after block until the input ends.
-fn run(block: &mut [u8], line: &mut [u8]) {
+// Reads block after block until the input ends, or cannot be read.
+fn run(stdin: &mut Stdin, stdout: &mut Stdout, block: &mut [u8], line: &mut [u8]) {
     let mut s = State {
         have: 0,
         begun: false,
@@ -45,36 +47,37 @@ fn run(block: &mut [u8], line: &mut [u8]) {
     };
     let mut turns = u64::MAX;
     while turns > 0 {
-        let got = libc::read(STDIN_FILENO, block);
-        let n = io::count(got, block);
+        let Some(n) = streams::read(stdin, block) else {
+            return;
+        };
         if n == 0 {
             return;
         }
-        s = take(&block[..n], line, s);
+        s = take(stdout, &block[..n], line, s);
         turns -= 1;
     }
 }
 
-fn take(block: &[u8], line: &mut [u8], s: State) -> State
+fn take(stdout: &mut Stdout, block: &[u8], line: &mut [u8], s: State) -> State
     requires { s.have ≤ length line.old }
     ensures { result.have ≤ length line.new }
 {
     let mut t = s;
     let mut i = 0;
     while i < block.len() {
-        t = feed(block[i], line, t);
+        t = feed(stdout, block[i], line, t);
         i += 1;
     }
     t
 }
 
-fn feed(b: u8, line: &mut [u8], s: State) -> State
+fn feed(stdout: &mut Stdout, b: u8, line: &mut [u8], s: State) -> State
     requires { s.have ≤ length line.old }
     ensures { result.have ≤ length line.new }
 {
     let have = keep(b, line, s.have);
     if b == b'\n' {
-        return ended(&line[..have], s);
+        return ended(stdout, &line[..have], s);
     }
     let mut t = s;
     t.have = have;
@@ -105,11 +108,12 @@ fn kept(b: u8) -> u8 {
 }
 
 // A line is there: the first, or a pair.
-fn ended(line: &[u8], s: State) -> State
+fn ended(stdout: &mut Stdout, line: &[u8], s: State) -> State
     ensures { result.have ≡ 0 }
 {
     if s.begun {
         row(
+            stdout,
             line,
             Setting {
                 clock: s.clock,
@@ -175,44 +179,44 @@ fn number(line: &[u8], at: usize, limit: u64) -> u64
 }
 
 // A and B, each ended by a zero byte.
-fn row(s: &[u8], set: Setting) {
+fn row(stdout: &mut Stdout, s: &[u8], set: Setting) {
     let end = buffer::end_of(s, 0);
     let from = end + 1;
     let to = buffer::end_of(s, from);
     if s.len() <= to {
-        say(b"refused\n");
+        say(stdout, b"refused\n");
         return;
     }
-    pair(set, &s[..end], &s[from..to]);
+    pair(stdout, set, &s[..end], &s[from..to]);
 }
 
 // The span has room for timediff's text and its zero byte; the answers to the millisecond have 23 bytes.
-fn pair(set: Setting, a: &[u8], b: &[u8]) {
+fn pair(stdout: &mut Stdout, set: Setting, a: &[u8], b: &[u8]) {
     let format = b"%Y-%m-%d %H:%M:%f";
     let mut span = [0u8; 32];
     let mut out = [0u8; 32];
     let back = reaches::put_back_as(set, format, a, b, &mut span, &mut out);
-    column(&span, buffer::end_of(&span, 0), b"\t");
-    text(&out, back, b"\t");
+    column(stdout, &span, buffer::end_of(&span, 0), b"\t");
+    text(stdout, &out, back, b"\t");
     let alone = datetime::strftime(set, format, Given::Bytes, a, b"", &mut out);
-    text(&out, alone, b"\n");
+    text(stdout, &out, alone, b"\n");
 }
 
 // An answer, and what stands after it.
-fn text(out: &[u8], answer: Answer, after: &[u8]) {
+fn text(stdout: &mut Stdout, out: &[u8], answer: Answer, after: &[u8]) {
     match answer {
-        Answer::Text(n) => column(out, n, after),
-        _ => column(b"refused", 7, after),
+        Answer::Text(n) => column(stdout, out, n, after),
+        _ => column(stdout, b"refused", 7, after),
     }
 }
 
-fn column(text: &[u8], n: usize, after: &[u8]) {
+fn column(stdout: &mut Stdout, text: &[u8], n: usize, after: &[u8]) {
     if n <= text.len() {
-        say(&text[..n]);
+        say(stdout, &text[..n]);
     }
-    say(after);
+    say(stdout, after);
 }
 
-fn say(text: &[u8]) {
-    io::write_all(STDOUT_FILENO, text);
+fn say(stdout: &mut Stdout, text: &[u8]) {
+    streams::write_all(stdout, text);
 }

@@ -12,9 +12,9 @@ ghost use Rattle.calendar.specs.Ranges.{InRange};
 ghost use Rattle.moment.specs.Held.{held};
 ghost use Rattle.moment.specs.Ranges.{Sane};
 
-use libc::{STDIN_FILENO, STDOUT_FILENO};
 use moment::{Moment, Step};
 use rules::Refusal;
+use std::io::{Stdin, Stdout};
 
 // The last millisecond that the clock may say.
 const CLOCK_LIMIT: u64 = 253402300799999;
@@ -30,14 +30,16 @@ pub struct State {
     pub begun: bool,
 }
 
-fn main() {
+fn main(rt: HostRuntime) {
+    let mut stdin = rt.stdin();
+    let mut stdout = rt.stdout();
     let mut block = [0u8; 65536];
     let mut line = [0u8; 512];
-    run(&mut block, &mut line);
+    run(&mut stdin, &mut stdout, &mut block, &mut line);
 }
 
-// Reads block after block until the input ends.
-fn run(block: &mut [u8], line: &mut [u8]) {
+// Reads block after block until the input ends, or cannot be read.
+fn run(stdin: &mut Stdin, stdout: &mut Stdout, block: &mut [u8], line: &mut [u8]) {
     let mut s = State {
         have: 0,
         clock: 0,
@@ -45,38 +47,39 @@ fn run(block: &mut [u8], line: &mut [u8]) {
     };
     let mut turns = u64::MAX;
     while turns > 0 {
-        let got = libc::read(STDIN_FILENO, block);
-        let n = io::count(got, block);
+        let Some(n) = streams::read(stdin, block) else {
+            return;
+        };
         if n == 0 {
             return;
         }
-        s = take(&block[..n], line, s);
+        s = take(stdout, &block[..n], line, s);
         turns -= 1;
     }
 }
 
-fn take(block: &[u8], line: &mut [u8], s: State) -> State
+fn take(stdout: &mut Stdout, block: &[u8], line: &mut [u8], s: State) -> State
     requires { (s.have ≤ length line.old) × (s.clock ≤ 253402300799999) }
     ensures { (result.have ≤ length line.new) × (result.clock ≤ 253402300799999) }
 {
     let mut t = s;
     let mut i = 0;
     while i < block.len() {
-        t = feed(block[i], line, t);
+        t = feed(stdout, block[i], line, t);
         i += 1;
     }
     t
 }
 
 // One byte: a newline ends the line. Bytes for which a line has no room are dropped.
-fn feed(b: u8, line: &mut [u8], s: State) -> State
+fn feed(stdout: &mut Stdout, b: u8, line: &mut [u8], s: State) -> State
     requires { (s.have ≤ length line.old) × (s.clock ≤ 253402300799999) }
     ensures { (result.have ≤ length line.new) × (result.clock ≤ 253402300799999) }
 {
     let have = s.have;
     if b == b'\n' {
         if s.begun {
-            row(&line[..have], s.clock);
+            row(stdout, &line[..have], s.clock);
             return State {
                 have: 0,
                 clock: s.clock,
@@ -125,71 +128,71 @@ fn clock_of(line: &[u8]) -> u64
 }
 
 // A time value and its two answers.
-fn row(s: &[u8], clock: u64)
+fn row(stdout: &mut Stdout, s: &[u8], clock: u64)
     requires { clock ≤ 253402300799999 }
 {
     if 255 < s.len() {
-        say(b"refused 2\trefused 2\n");
+        say(stdout, b"refused 2\trefused 2\n");
         return;
     }
     if !text::is_ascii(s) {
-        say(b"refused 3\trefused 3\n");
+        say(stdout, b"refused 3\trefused 3\n");
         return;
     }
     match reading::text_value(s, clock) {
-        Step::Next(p) => in_range(p),
-        Step::Refused(r) => refused(r),
+        Step::Next(p) => in_range(stdout, p),
+        Step::Refused(r) => refused(stdout, r),
     }
-    say(b"\n");
+    say(stdout, b"\n");
 }
 
-fn say(text: &[u8]) {
-    io::write_all(STDOUT_FILENO, text);
+fn say(stdout: &mut Stdout, text: &[u8]) {
+    streams::write_all(stdout, text);
 }
 
-fn refused(r: Refusal) {
+fn refused(stdout: &mut Stdout, r: Refusal) {
     match r {
-        Refusal::Decimal => say(b"refused 5\trefused 5"),
-        _ => say(b"null\tnull"),
+        Refusal::Decimal => say(stdout, b"refused 5\trefused 5"),
+        _ => say(stdout, b"null\tnull"),
     }
 }
 
-fn in_range(p: Moment)
+fn in_range(stdout: &mut Stdout, p: Moment)
     requires { Sane (held p) }
 {
     match p.ranged() {
-        Step::Next(q) => answers(q.ms, q.subsec),
-        Step::Refused(r) => refused(r),
+        Step::Next(q) => answers(stdout, q.ms, q.subsec),
+        Step::Refused(r) => refused(stdout, r),
     }
 }
 
-fn answers(ms: u64, subsec: bool)
+fn answers(stdout: &mut Stdout, ms: u64, subsec: bool)
     requires { InRange ms }
 {
-    float(real::julian_real(ms));
-    say(b"\t");
+    float(stdout, real::julian_real(ms));
+    say(stdout, b"\t");
     if subsec {
-        float(real::unix_real(ms));
+        float(stdout, real::unix_real(ms));
     } else {
-        seconds(ms);
+        seconds(stdout, ms);
     }
 }
 
 // No answer is a NaN.
-fn float(x: f64) {
+fn float(stdout: &mut Stdout, x: f64) {
     if x == x {
-        io::print_hex(STDOUT_FILENO, f64::to_bits(x), 16);
+        streams::print_hex(stdout, f64::to_bits(x), 16);
     }
 }
 
 // Seconds from 1970, "rounded by floor, so -500 ms is second -1".
-fn seconds(ms: u64)
+fn seconds(stdout: &mut Stdout, ms: u64)
     requires { InRange ms }
 {
     if UNIX_EPOCH <= ms {
-        io::print_decimal(STDOUT_FILENO, (ms - UNIX_EPOCH) / 1000);
+        streams::print_decimal(stdout, (ms - UNIX_EPOCH) / 1000);
     } else {
-        say(b"-");
-        io::print_decimal(STDOUT_FILENO, (UNIX_EPOCH - ms + 999) / 1000);
+        say(stdout, b"-");
+        streams::print_decimal(stdout, (UNIX_EPOCH - ms + 999) / 1000);
     }
 }
