@@ -96,7 +96,7 @@ next_100 p = omega arith
 next_400 : (p : ℕ) → suc p / 400 ≡ p / 400 + (1 - suc p % 400)
 next_400 p = omega arith
 
--- the step of `closed-from`, with each quotient and each remainder a variable: omega has none to look into
+-- the step of `closed_from`, with each quotient and each remainder a variable: omega has none to look into
 step : (p Y L l a b c a' b' c' x z w : ℕ) → Y + b + 12888312 ≡ 365 * suc p + a + c → L ≡ 365 + l → l + z ≡ x + w → a' ≡ a + x → b' ≡ b + z → c' ≡ c + w → (Y + L) + b' + 12888312 ≡ 365 * suc (suc p) + a' + c'
 step p Y L l a b c a' b' c' x z w h e k f g i = omega arith
 

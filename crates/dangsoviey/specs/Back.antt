@@ -1,4 +1,4 @@
--- A stamp is read back to its milliseconds. The proof is `reads-back` in proofs/Back.antt.
+-- A stamp is read back to its milliseconds. The proof is `reads_back` in proofs/Back.antt.
 use Rattle.std.specs.Prelude.{ℕ, false, List, [], ◌≡◌, ℤ, pos, negsuc, length, ◌≤ℤ◌}
 use Rattle.rules.specs.Calls.{bytes, text, integer, bad_setting}
 use Rattle.rules.specs.declared.Setting.{Setting}

@@ -393,7 +393,7 @@ fill_settled p h = either_known p.dated refl
 pub renewed_sound : (p : Moment) → Sound (set_dated p false)
 renewed_sound p d c t = never (sym d)
 
--- So the time of day that `fill` takes is the Rust's: of a record that a modifier is given (`fresh-sound`), and of one that an answer is written
--- from (`count-sound`, `renewed-sound`).
+-- So the time of day that `fill` takes is the Rust's: of a record that a modifier is given (`fresh_sound`), and of one that an answer is written
+-- from (`count_sound`, `renewed_sound`).
 pub fill_remainder : (p : Moment) → Sound p → (fill_date p).timed ≡ false → cut_remainder (count_ms (fill_date p)).ms ≡ pos (time_of_day (count_ms (fill_date p)).ms)
 fill_remainder p h t = same_remainder _ (fill_settled p h t)

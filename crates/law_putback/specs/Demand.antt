@@ -3,7 +3,7 @@
 -- text as B's only modifier reaches A to the millisecond. Of all shifts up to the months between B's calendar month and A's, its years and
 -- months are the most that do not carry B past A; its days are at most 30."
 --
--- Said over rules' `answer`, `answered`, `after` and `moment_of`. The proof is `demand-3` in proofs/Demand.antt.
+-- Said over rules' `answer`, `answered`, `after` and `moment_of`. The proof is `demand_3` in proofs/Demand.antt.
 use Rattle.std.specs.Prelude.{if◌then◌else◌, ℕ, ◌+◌, ◌-◌, ◌*◌, ◌/◌, ◌≤◌, ◌<◌, Bool, false, ◌≡◌, List, [], ◌∷◌, ◌++◌, leb, length}
 use Rattle.rules.specs.Basics.{ascii, got}
 use Rattle.rules.specs.Calendar.{day_length}
@@ -21,7 +21,7 @@ use Rattle.reading.specs.Written.{Stamp, written, Full, instant_of}
 -- ---- A and B
 -- "whole milliseconds, in years 0 to 9999, written in full .., existing day, hour 00 to 23, no zone": YYYY-MM-DD HH:MM:SS.F, with any run
 -- of whitespace and `T` between date and time, any whitespace at the end, and a fraction, if there is one, of `millis` thousandths
--- (reading/specs/Written.antt). `Full` counts the fraction's digits too, which `short` does already: `few-digits` in reading.
+-- (reading/specs/Written.antt). `Full` counts the fraction's digits too, which `short` does already: `few_digits` in reading.
 pub record Instant : Type 0 where
   pub stamp : Stamp
   pub millis : ℕ
@@ -79,7 +79,7 @@ pub record Kept (set : Setting) (a b : Instant) : Type 0 where
   pub sign : plus ≡ leb (at b) (at a)
   -- "Of all shifts up to the months between B's calendar month and A's, its years and months are the most that do not carry B past A": a
   -- shift is a modifier of the same form without a rest; one by its own months does not pass A, and every longer one does. It moves B as
-  -- `N months` does (modifiers/proofs/Shifts.antt: `by-date`, `by-months`).
+  -- `N months` does (modifiers/proofs/Shifts.antt: `by_date_lem`, `by_months_lem`).
   pub up_to : months ≤ between plus a b
   pub stays : Reaches set b (shift_by plus months 0) (λ t. Toward plus (at a) t)
   pub most : (n : ℕ) → months < n → n ≤ between plus a b → Reaches set b (shift_by plus n 0) (λ t. Past plus (at a) t)
