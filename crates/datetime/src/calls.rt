@@ -122,7 +122,7 @@ fn read(set: Setting, given: Given, value: &[u8], modifiers: &[u8]) -> Step
 pub fn moment_for(set: Setting, format: &[u8], given: Given, value: &[u8], modifiers: &[u8]) -> Step
     ensures result_value { read_of result ≡ opened set (strftime format.now (value_of given value.now) modifiers.now) (rule.moment_of set (value_of given value.now) modifiers.now) }
     ensures lands { Lands Ready result }
-    ensures lands_2 { Lands (λ _. length format.now ≤ 1024) result }
+    ensures short_format { Lands (λ _. length format.now ≤ 1024) result }
 {
     let others = either(fault_of_value(given, value), buffer::fault_of(modifiers));
     match tested(either(fault_of_text(format, 1024), others), set) {

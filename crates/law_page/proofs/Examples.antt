@@ -186,8 +186,8 @@ module _ (set : Setting) (ok : bad_setting set ≡ false) where
           stands = counted_stands S Q;
         }
 
-    last_day_lem : answer set (call Function.Date (bytes (ascii "now")) ("start of month" then "+1 month" then "-1 day" then [])) ≡ text (date_text (this_year set) m (month_length y m))
-    last_day_lem =
+    last_day_of_month : answer set (call Function.Date (bytes (ascii "now")) ("start of month" then "+1 month" then "-1 day" then [])) ≡ text (date_text (this_year set) m (month_length y m))
+    last_day_of_month =
         let X = last_exists y m D.exists.month_low D.exists.month_high in
         let c = date_at y m (month_length y m) X D.low D.high in
         let Q = date_in y m (month_length y m) X (omega (arith, from_1970)) D.high in
@@ -299,4 +299,4 @@ module _ (set : Setting) (ok : bad_setting set ≡ false) where
       same e = let f = N.reads in cc
 
   pub shown : Examples set
-  shown = record { current_date = current_date; last_day_lem = last_day_lem; timestamp = timestamp; timestamp_text = timestamp_text; first_tuesday = first_tuesday }
+  shown = record { current_date = current_date; last_day_of_month = last_day_of_month; timestamp = timestamp; timestamp_text = timestamp_text; first_tuesday = first_tuesday }

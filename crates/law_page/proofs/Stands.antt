@@ -57,7 +57,7 @@ module _ {t : ℕ} {p : Moment} (S : Stands t p) where
   zone_meant = go p.timed
     where
       go : (b : Bool) → (time_of b).zone ≡ no_zone
-      go true = S.no_zone_lem
+      go true = S.has_no_zone
       go false = refl
 
   -- a number as it was given is counted
@@ -105,10 +105,10 @@ filled_clock u =
     record { hour = refl; minute = refl; second = Q.cut_is; thousandths = Q.decimals_are ∙ e }
 
 dated_stands : {t : ℕ} (p : Moment) → Stands t p → (c : Ymd) → civil t ≡ c → Stands t (on_date p c)
-dated_stands p S c e = record { ms_is = S.ms_is; date_is = λ _. e; no_date = λ h _. never h; time_is = S.time_is; clock_is = S.clock_is; no_time = S.no_time; fields = S.fields; no_zone_lem = S.no_zone_lem; number = S.number; something = refl; not_failed = S.not_failed }
+dated_stands p S c e = record { ms_is = S.ms_is; date_is = λ _. e; no_date = λ h _. never h; time_is = S.time_is; clock_is = S.clock_is; no_time = S.no_time; fields = S.fields; has_no_zone = S.has_no_zone; number = S.number; something = refl; not_failed = S.not_failed }
 
 timed_stands : {t : ℕ} (p : Moment) → Stands t p → p.dated ≡ true → Stands t (on_time (counted p t) (time_of_day t))
-timed_stands {t} p S d = record { ms_is = λ _. refl; date_is = S.date_is; no_date = λ h _. never (sym d ∙ h); time_is = λ _. filled_time (time_of_day t) (time_high t); clock_is = λ _. filled_clock (time_of_day t); no_time = λ h _. never h; fields = λ h. never h; no_zone_lem = S.no_zone_lem; number = λ h. never (sym h); something = rw d; not_failed = S.not_failed }
+timed_stands {t} p S d = record { ms_is = λ _. refl; date_is = S.date_is; no_date = λ h _. never (sym d ∙ h); time_is = λ _. filled_time (time_of_day t) (time_high t); clock_is = λ _. filled_clock (time_of_day t); no_time = λ h _. never h; fields = λ h. never h; has_no_zone = S.has_no_zone; number = λ h. never (sym h); something = rw d; not_failed = S.not_failed }
 
 -- what is filled: the record stands for t still, its date and its time of day stand, and it is no number as given
 pub record Full (t : ℕ) (p : Moment) : Type 0 where
@@ -154,7 +154,7 @@ as_fields {t} {p} F =
       time_is = S.time_is F.timed;
       is_dated = F.dated;
       is_timed = F.timed;
-      no_zone_lem = S.no_zone_lem;
+      has_no_zone = S.has_no_zone;
       not_raw = timed_not_raw S F.timed;
       not_failed = S.not_failed;
     }
@@ -163,7 +163,7 @@ as_fields {t} {p} F =
 pub again : {t : ℕ} {p : Moment} → Full t p → InRange t → Stands t (set_counted p false)
 again {t} {p} F R =
     let S = F.stands in
-    record { ms_is = λ h. never (sym h); date_is = S.date_is; no_date = λ h _. never (sym F.dated ∙ h); time_is = S.time_is; clock_is = S.clock_is; no_time = λ h _. never (sym F.timed ∙ h); fields = λ _. (from_start t R.from, R.to); no_zone_lem = S.no_zone_lem; number = λ h. never (sym h ∙ timed_not_raw S F.timed); something = rw F.dated; not_failed = S.not_failed }
+    record { ms_is = λ h. never (sym h); date_is = S.date_is; no_date = λ h _. never (sym F.dated ∙ h); time_is = S.time_is; clock_is = S.clock_is; no_time = λ h _. never (sym F.timed ∙ h); fields = λ _. (from_start t R.from, R.to); has_no_zone = S.has_no_zone; number = λ h. never (sym h ∙ timed_not_raw S F.timed); something = rw F.dated; not_failed = S.not_failed }
 
 -- only milliseconds stand
 pub only_ms : {t : ℕ} {p : Moment} → Counts t p → Stands t p
@@ -176,7 +176,7 @@ only_ms {t} {p} C =
       clock_is = λ h. never (sym h ∙ C.not_timed);
       no_time = λ _ h. never (sym C.is_counted ∙ h);
       fields = λ h. never (sym C.is_counted ∙ h);
-      no_zone_lem = C.no_zone_lem;
+      has_no_zone = C.has_no_zone;
       number = λ h. never (sym h ∙ C.not_raw);
       something = rw (C.not_dated, C.not_timed, C.is_counted);
       not_failed = C.not_failed;

@@ -65,9 +65,9 @@ module _ (y m d : ℕ) (tm : Time) where
     fields_stand : (u : Bool) → tm.zone ≡ no_zone → Stands (midnight y m d + into) (dated u)
     unfolding past_end
     fields_stand true z =
-        record { ms_is = λ h. never (sym h); date_is = λ _. date_again y m d into E (omega arith) high inside; no_date = λ h _. never h; time_is = λ _. sym (time_again y m d into inside); clock_is = λ _. clock_as (time_again y m d into inside) C; no_time = λ h _. never h; fields = λ _. (omega (arith, start_is, range.from), range.to); no_zone_lem = z; number = λ h. never (sym h); something = refl; not_failed = refl }
+        record { ms_is = λ h. never (sym h); date_is = λ _. date_again y m d into E (omega arith) high inside; no_date = λ h _. never h; time_is = λ _. sym (time_again y m d into inside); clock_is = λ _. clock_as (time_again y m d into inside) C; no_time = λ h _. never h; fields = λ _. (omega (arith, start_is, range.from), range.to); has_no_zone = z; number = λ h. never (sym h); something = refl; not_failed = refl }
     fields_stand false z =
-        record { ms_is = λ h. never (sym h); date_is = λ _. date_again y m d into E (omega arith) high inside; no_date = λ h _. never h; time_is = λ _. sym (time_again y m d into inside); clock_is = λ _. clock_as (time_again y m d into inside) C; no_time = λ h _. never h; fields = λ _. (omega (arith, start_is, range.from), range.to); no_zone_lem = z; number = λ h. never (sym h); something = refl; not_failed = refl }
+        record { ms_is = λ h. never (sym h); date_is = λ _. date_again y m d into E (omega arith) high inside; no_date = λ h _. never h; time_is = λ _. sym (time_again y m d into inside); clock_is = λ _. clock_as (time_again y m d into inside) C; no_time = λ h _. never h; fields = λ _. (omega (arith, start_is, range.from), range.to); has_no_zone = z; number = λ h. never (sym h); something = refl; not_failed = refl }
 
     takes : sum_takes y false ≡ true
     takes = sym (in_time y false (omega arith) high)
@@ -77,8 +77,8 @@ module _ (y m d : ℕ) (tm : Time) where
 
     only : (u : Bool) → Counts zulu (set_utc (clear (counted (dated u) zulu)))
     unfolding past_end
-    only true = record { ms_is = refl; is_counted = refl; not_dated = refl; not_timed = refl; no_zone_lem = refl; not_raw = refl; not_failed = refl }
-    only false = record { ms_is = refl; is_counted = refl; not_dated = refl; not_timed = refl; no_zone_lem = refl; not_raw = refl; not_failed = refl }
+    only true = record { ms_is = refl; is_counted = refl; not_dated = refl; not_timed = refl; has_no_zone = refl; not_raw = refl; not_failed = refl }
+    only false = record { ms_is = refl; is_counted = refl; not_dated = refl; not_timed = refl; has_no_zone = refl; not_raw = refl; not_failed = refl }
 
     zoned : (u : Bool) → (tm.zone ≡ no_zone → ⊥) → set_utc (clear (counted (dated u) zulu)) ≡ settled (dated u)
     unfolding past_end
@@ -111,7 +111,7 @@ alone_stands y m d E low high =
     let R = in_range_lem y m d 0 low high (month_day _ _ _ E) (omega arith) in
     let D = subst (λ (t : ℕ). civil t ≡ record { year = y; month = m; day = d }) e (date_again y m d 0 E (omega arith) high (omega arith)) in
     let T = subst (λ (t : ℕ). time_of_day t ≡ 0) e (time_again y m d 0 (omega arith)) in
-    record { ms_is = λ h. never (sym h); date_is = λ _. D; no_date = λ h _. never h; time_is = λ h. never (sym h); clock_is = λ h. never (sym h); no_time = λ _ _. T; fields = λ _. (omega (arith, start_is, R.from), omega (arith, R.to)); no_zone_lem = refl; number = λ h. never (sym h); something = refl; not_failed = refl }
+    record { ms_is = λ h. never (sym h); date_is = λ _. D; no_date = λ h _. never h; time_is = λ h. never (sym h); clock_is = λ h. never (sym h); no_time = λ _ _. T; fields = λ _. (omega (arith, start_is, R.from), omega (arith, R.to)); has_no_zone = refl; number = λ h. never (sym h); something = refl; not_failed = refl }
 
 -- ---- the texts
 first_digit : (x : ℕ) → x ≤ 9 → (gap (48 + x) ≡ false) × (eqb 45 (48 + x) ≡ false)
@@ -209,9 +209,9 @@ module _ (tm : Time) (inside : time_ms tm.hour tm.minute tm.second < day_length)
 
   time_stands : (u : Bool) → tm.zone ≡ no_zone → Stands (midnight (year 2000) 1 1 + ms) (base_2000 u)
   time_stands true h =
-      record { ms_is = λ h. never (sym h); date_is = λ h. never (sym h); no_date = λ _ _. date_again (year 2000) 1 1 ms new_year (lit≤ tt) (lit≤ tt) inside; time_is = λ _. sym (time_again (year 2000) 1 1 ms inside); clock_is = λ _. clock_as (time_again (year 2000) 1 1 ms inside) C; no_time = λ h _. never h; fields = λ _. (omega (arith, start_is, range_2000.from), range_2000.to); no_zone_lem = h; number = λ h. never (sym h); something = refl; not_failed = refl }
+      record { ms_is = λ h. never (sym h); date_is = λ h. never (sym h); no_date = λ _ _. date_again (year 2000) 1 1 ms new_year (lit≤ tt) (lit≤ tt) inside; time_is = λ _. sym (time_again (year 2000) 1 1 ms inside); clock_is = λ _. clock_as (time_again (year 2000) 1 1 ms inside) C; no_time = λ h _. never h; fields = λ _. (omega (arith, start_is, range_2000.from), range_2000.to); has_no_zone = h; number = λ h. never (sym h); something = refl; not_failed = refl }
   time_stands false h =
-      record { ms_is = λ h. never (sym h); date_is = λ h. never (sym h); no_date = λ _ _. date_again (year 2000) 1 1 ms new_year (lit≤ tt) (lit≤ tt) inside; time_is = λ _. sym (time_again (year 2000) 1 1 ms inside); clock_is = λ _. clock_as (time_again (year 2000) 1 1 ms inside) C; no_time = λ h _. never h; fields = λ _. (omega (arith, start_is, range_2000.from), range_2000.to); no_zone_lem = h; number = λ h. never (sym h); something = refl; not_failed = refl }
+      record { ms_is = λ h. never (sym h); date_is = λ h. never (sym h); no_date = λ _ _. date_again (year 2000) 1 1 ms new_year (lit≤ tt) (lit≤ tt) inside; time_is = λ _. sym (time_again (year 2000) 1 1 ms inside); clock_is = λ _. clock_as (time_again (year 2000) 1 1 ms inside) C; no_time = λ h _. never h; fields = λ _. (omega (arith, start_is, range_2000.from), range_2000.to); has_no_zone = h; number = λ h. never (sym h); something = refl; not_failed = refl }
 
   abbrev zulu_2000 : ℕ
   zulu_2000 = midnight (year 2000) 1 1 + ms + no_zone * 60000 - tm.zone * 60000
@@ -250,7 +250,7 @@ format_8_zone clock c z i j =
 
 -- ---- now
 pub now_counts : (clock : ℕ) → Counts (unix_epoch + clock) (now clock blank)
-now_counts clock = record { ms_is = refl; is_counted = refl; not_dated = refl; not_timed = refl; no_zone_lem = refl; not_raw = refl; not_failed = refl }
+now_counts clock = record { ms_is = refl; is_counted = refl; not_dated = refl; not_timed = refl; has_no_zone = refl; not_raw = refl; not_failed = refl }
 
 now_read : (clock : ℕ) → text_value clock (ascii "now") ≡ got (now clock blank)
 unfolding text_value date_form date_from time_form time digits digits_on word
@@ -271,7 +271,7 @@ subsec_read clock = (refl, refl)
 
 subsec_first : (clock : ℕ) → Leads (time_value clock (bytes (ascii "subsec"))) (unix_epoch + clock)
 unfolding time_value
-subsec_first clock = record { moment = now clock (set_subsec blank true); reads = (subsec_read clock).0; stands = only_ms (record { ms_is = refl; is_counted = refl; not_dated = refl; not_timed = refl; no_zone_lem = refl; not_raw = refl; not_failed = refl }) }
+subsec_first clock = record { moment = now clock (set_subsec blank true); reads = (subsec_read clock).0; stands = only_ms (record { ms_is = refl; is_counted = refl; not_dated = refl; not_timed = refl; has_no_zone = refl; not_raw = refl; not_failed = refl }) }
 
 subsecond_first : (clock : ℕ) → time_value clock (bytes (ascii "subsecond")) ≡ time_value clock (bytes (ascii "subsec"))
 unfolding time_value
@@ -279,7 +279,7 @@ subsecond_first clock = (subsec_read clock).1 ∙ sym (subsec_read clock).0
 
 -- ---- Julian days
 julian_stands : (x : Float) (n : ℕ) → Stands n (counted (set_raw (set_time blank 0 0 x) true) n)
-julian_stands x n = record { ms_is = λ _. refl; date_is = λ h. never (sym h); no_date = λ _ h. never h; time_is = λ h. never (sym h); clock_is = λ h. never (sym h); no_time = λ _ h. never h; fields = λ h. never h; no_zone_lem = refl; number = λ _. (refl, refl); something = refl; not_failed = refl }
+julian_stands x n = record { ms_is = λ _. refl; date_is = λ h. never (sym h); no_date = λ _ h. never h; time_is = λ h. never (sym h); clock_is = λ h. never (sym h); no_time = λ _ h. never h; fields = λ h. never h; has_no_zone = refl; number = λ _. (refl, refl); something = refl; not_failed = refl }
 
 pub julian_leads : (n : ℕ) → n ≤ 5373484 → Leads (got (raw_number (number n))) (instant (n * day_length))
 julian_leads n h =

@@ -26,7 +26,7 @@ as_filled b p h = let e : fill p ≡ p = rw (h.is_dated, h.is_timed) in rw e h
 pub in_full : (p : Moment) → Exists p.year p.month p.day → minus_year 4713 ≤ p.year → p.year ≤ year 9999 → time_ms p.hour p.minute p.second < day_length → p.dated ≡ true → p.timed ≡ true → p.zone ≡ no_zone → p.raw ≡ false → p.failed ≡ false → StandsFor (midnight p.year p.month p.day + time_ms p.hour p.minute p.second) p
 in_full p D low high u d t z r f =
     let c = sym (date_again p.year p.month p.day (time_ms p.hour p.minute p.second) D low high u) in
-    record { year_is = ap (λ (c : Ymd). c.year) c; month_is = ap (λ (c : Ymd). c.month) c; day_is = ap (λ (c : Ymd). c.day) c; time_is = sym (time_again p.year p.month p.day (time_ms p.hour p.minute p.second) u); is_dated = d; is_timed = t; no_zone_lem = z; not_raw = r; not_failed = f }
+    record { year_is = ap (λ (c : Ymd). c.year) c; month_is = ap (λ (c : Ymd). c.month) c; day_is = ap (λ (c : Ymd). c.day) c; time_is = sym (time_again p.year p.month p.day (time_ms p.hour p.minute p.second) u); is_dated = d; is_timed = t; has_no_zone = z; not_raw = r; not_failed = f }
 
 -- a number of steps by a modifier's sign
 steps : (plus : Bool) (x n : ℕ) → move x (signed (not plus) n) 1 ≡ moved plus x n
@@ -63,8 +63,8 @@ module _ (plus : Bool) (b n : ℕ) (p : Moment) (h : StandsFor b (fill p)) where
       let k = moved plus (month_at b) n in
       let by = signed (not plus) (d * day_length + t) in
       let q : past_end (shift (set_counted f false) (signed (not plus) (y * 12 + m)) 1) ≡ in_other f k = ap (in_other f) (month_moved y m e) in
-      let s = ap count_ms q ∙ summed (in_other f k) refl h.is_dated h.is_timed h.no_zone_lem h.not_raw low high in
-      counts_as (ap (λ (q : Moment). clear (moment.moved q by 1)) s) (record { ms_is = steps plus _ _ ∙ ap (λ (x : ℕ). moved plus x (d * day_length + t)) sum_is; is_counted = refl; not_dated = refl; not_timed = refl; no_zone_lem = refl; not_raw = h.not_raw; not_failed = h.not_failed })
+      let s = ap count_ms q ∙ summed (in_other f k) refl h.is_dated h.is_timed h.has_no_zone h.not_raw low high in
+      counts_as (ap (λ (q : Moment). clear (moment.moved q by 1)) s) (record { ms_is = steps plus _ _ ∙ ap (λ (x : ℕ). moved plus x (d * day_length + t)) sum_is; is_counted = refl; not_dated = refl; not_timed = refl; has_no_zone = refl; not_raw = h.not_raw; not_failed = h.not_failed })
 
 -- ---- timediff's answer as a modifier
 

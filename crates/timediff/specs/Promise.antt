@@ -14,7 +14,7 @@ pub record StandsFor (b : ℕ) (p : Moment) : Type 0 where
   pub time_is : time_ms p.hour p.minute p.second ≡ time_of_day b
   pub is_dated : p.dated ≡ true
   pub is_timed : p.timed ≡ true
-  pub no_zone_lem : p.zone ≡ no_zone
+  pub has_no_zone : p.zone ≡ no_zone
   pub not_raw : p.raw ≡ false
   pub not_failed : p.failed ≡ false
 
@@ -24,7 +24,7 @@ pub record Counts (t : ℕ) (p : Moment) : Type 0 where
   pub is_counted : p.counted ≡ true
   pub not_dated : p.dated ≡ false
   pub not_timed : p.timed ≡ false
-  pub no_zone_lem : p.zone ≡ no_zone
+  pub has_no_zone : p.zone ≡ no_zone
   pub not_raw : p.raw ≡ false
   pub not_failed : p.failed ≡ false
 

@@ -11,7 +11,11 @@ pub datetime-requires : goal.datetime-requires
 datetime-requires c = c.renewed.ensures.1
 
 pub returns-in-Next : goal.returns-in-Next
-returns-in-Next c = record { value = (stated (datetime_answer _ _ _ _ c.moment_of.ensures.result_value _ c.in-Next.is _ c.renewed.ensures.0) c.datetime.ensures).0; out_after = (stated (datetime_answer _ _ _ _ c.moment_of.ensures.result_value _ c.in-Next.is _ c.renewed.ensures.0) c.datetime.ensures).1 }
+returns-in-Next c =
+    let r = stated (datetime_answer _ _ _ _ c.moment_of.ensures.result_value _ c.in-Next.is _ c.renewed.ensures.0) c.datetime.ensures in
+    record { value = r.0; out_after = r.1 }
 
 pub returns-in-Refused : goal.returns-in-Refused
-returns-in-Refused c = record { value = (stated (call_refused _ _ _ _ c.moment_of.ensures.result_value _ _ c.in-Refused.is) (gives_refusal _ _)).0; out_after = (stated (call_refused _ _ _ _ c.moment_of.ensures.result_value _ _ c.in-Refused.is) (gives_refusal _ _)).1 }
+returns-in-Refused c =
+    let r = stated (call_refused _ _ _ _ c.moment_of.ensures.result_value _ _ c.in-Refused.is) (gives_refusal _ _) in
+    record { value = r.0; out_after = r.1 }

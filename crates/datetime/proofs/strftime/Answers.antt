@@ -11,10 +11,14 @@ pub fill-requires : goal.fill-requires
 fill-requires c = (landed Ready _ c.in-Next.is c.moment_for.ensures.lands).after.sane
 
 pub formatted-requires : goal.formatted-requires
-formatted-requires c = (filled (landed Ready _ c.in-Next.is c.moment_for.ensures.lands) c.fill.ensures.is, landed (λ (_ : Moment). length c.args.format.now ≤ 1024) _ c.in-Next.is c.moment_for.ensures.lands_2)
+formatted-requires c = (filled (landed Ready _ c.in-Next.is c.moment_for.ensures.lands) c.fill.ensures.is, landed (λ (_ : Moment). length c.args.format.now ≤ 1024) _ c.in-Next.is c.moment_for.ensures.short_format)
 
 pub returns-in-Next : goal.returns-in-Next
-returns-in-Next c = record { value = (stated (strftime_answer _ _ _ _ _ c.moment_for.ensures.result_value _ c.in-Next.is _ c.fill.ensures.is) c.formatted.ensures).0; out_after = (stated (strftime_answer _ _ _ _ _ c.moment_for.ensures.result_value _ c.in-Next.is _ c.fill.ensures.is) c.formatted.ensures).1 }
+returns-in-Next c =
+    let r = stated (strftime_answer _ _ _ _ _ c.moment_for.ensures.result_value _ c.in-Next.is _ c.fill.ensures.is) c.formatted.ensures in
+    record { value = r.0; out_after = r.1 }
 
 pub returns-in-Refused : goal.returns-in-Refused
-returns-in-Refused c = record { value = (stated (strftime_refused _ _ _ _ _ c.moment_for.ensures.result_value _ c.in-Refused.is) (gives_refusal _ _)).0; out_after = (stated (strftime_refused _ _ _ _ _ c.moment_for.ensures.result_value _ c.in-Refused.is) (gives_refusal _ _)).1 }
+returns-in-Refused c =
+    let r = stated (strftime_refused _ _ _ _ _ c.moment_for.ensures.result_value _ c.in-Refused.is) (gives_refusal _ _) in
+    record { value = r.0; out_after = r.1 }

@@ -23,13 +23,19 @@ pub overflow_add-result-in-NoRoom : goal.overflow_add-result-in-NoRoom
 overflow_add-result-in-NoRoom c = omega (arith, short_small _ _ _ _ _ (said _ _ _) c.all_but_one-room.ensures c.timediff.ensures.value c.timediff.ensures.out_after _ c.in-NoRoom.is)
 
 pub returns-in-Text : goal.returns-in-Text
-returns-in-Text c = record { value = (text_put _ _ _ _ _ (said _ _ _) c.all_but_one-room.ensures c.timediff.ensures.value c.timediff.ensures.out_after _ c.in-Text.is).0; span_after = (text_put _ _ _ _ _ (said _ _ _) c.all_but_one-room.ensures c.timediff.ensures.value c.timediff.ensures.out_after _ c.in-Text.is).1 }
+returns-in-Text c =
+    let r = text_put _ _ _ _ _ (said _ _ _) c.all_but_one-room.ensures c.timediff.ensures.value c.timediff.ensures.out_after _ c.in-Text.is in
+    record { value = r.0; span_after = r.1 }
 
 pub returns-in-NoRoom : goal.returns-in-NoRoom
-returns-in-NoRoom c = record { value = (short_put _ _ _ _ _ (said _ _ _) c.all_but_one-room.ensures c.timediff.ensures.value c.timediff.ensures.out_after _ c.in-NoRoom.is).0; span_after = (short_put _ _ _ _ _ (said _ _ _) c.all_but_one-room.ensures c.timediff.ensures.value c.timediff.ensures.out_after _ c.in-NoRoom.is).1 }
+returns-in-NoRoom c =
+    let r = short_put _ _ _ _ _ (said _ _ _) c.all_but_one-room.ensures c.timediff.ensures.value c.timediff.ensures.out_after _ c.in-NoRoom.is in
+    record { value = r.0; span_after = r.1 }
 
 pub returns-in-Refused : goal.returns-in-Refused
-returns-in-Refused c = record { value = (refused_put _ _ _ _ _ (said _ _ _) c.all_but_one-room.ensures c.timediff.ensures.value c.timediff.ensures.out_after _ c.in-Refused.is).0; span_after = (refused_put _ _ _ _ _ (said _ _ _) c.all_but_one-room.ensures c.timediff.ensures.value c.timediff.ensures.out_after _ c.in-Refused.is).1 }
+returns-in-Refused c =
+    let r = refused_put _ _ _ _ _ (said _ _ _) c.all_but_one-room.ensures c.timediff.ensures.value c.timediff.ensures.out_after _ c.in-Refused.is in
+    record { value = r.0; span_after = r.1 }
 
 pub returns-in-Integer : goal.returns-in-Integer
 returns-in-Integer c = let A = c.args in

@@ -10,4 +10,5 @@ returns-in_default c = record { result_value = sym (digits_other 2 _ _ _ (read_o
 pub returns : goal.returns
 returns c = let h = read_of _ _ _ _ c.pair.ensures.result_value c.in-Number.is in
     let p = told_of c.pair.ensures.told c.in-Number.is in
-    record { result_value = (limited_reads 2 _ _ _ _ _ _ _ _ c.limit.ensures h p.place p.inside).0; told = (limited_reads 2 _ _ _ _ _ _ _ _ c.limit.ensures h p.place p.inside).1 }
+    let r = limited_reads 2 _ _ _ _ _ _ _ _ c.limit.ensures h p.place p.inside in
+    record { result_value = r.0; told = r.1 }

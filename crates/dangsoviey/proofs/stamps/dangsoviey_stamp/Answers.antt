@@ -8,4 +8,5 @@ use Rattle.dangsoviey.proofs.stamps.dangsoviey_stamp.Goals as goal
 
 pub returns : goal.returns
 returns c = let g = c.stamp.ensures in
-    record { value = (replied _ c.args.out.now (ap stamp (to_z-of_z w64 _ c.ranges.ms)) (g.is, g.bytes) c.reply_of.ensures).0; out_after = (replied _ c.args.out.now (ap stamp (to_z-of_z w64 _ c.ranges.ms)) (g.is, g.bytes) c.reply_of.ensures).1 }
+    let r = replied _ c.args.out.now (ap stamp (to_z-of_z w64 _ c.ranges.ms)) (g.is, g.bytes) c.reply_of.ensures in
+    record { value = r.0; out_after = r.1 }

@@ -26,7 +26,7 @@ pub read-requires : goal.read-requires
 read-requires c = let p = through c.before in let s = format_short p in (s.1, s.2, p.setting)
 
 pub returns-in-Open : goal.returns-in-Open
-returns-in-Open c = record { result_value = c.read.ensures.result_value ∙ let_through _ (through c.before.before); lands = c.read.ensures.lands; lands_2 = lands_all c.read.result (ltb-false 1024 (length c.args.format.now) (format_short (through c.before.before)).0) }
+returns-in-Open c = record { result_value = c.read.ensures.result_value ∙ let_through _ (through c.before.before); lands = c.read.ensures.lands; short_format = lands_all c.read.result (ltb-false 1024 (length c.args.format.now) (format_short (through c.before.before)).0) }
 
 pub returns-in-Refused : goal.returns-in-Refused
-returns-in-Refused c = record { result_value = stopped c.args.set (asked c.before.before.before.before.before.before.before.before.before.before.before) (moment_of c.args.set (value_of c.args.given c.args.value.now) c.args.modifiers.now) (sym (gate c.before.before) ∙ c.in-Refused.is); lands = tt; lands_2 = tt }
+returns-in-Refused c = record { result_value = stopped c.args.set (asked c.before.before.before.before.before.before.before.before.before.before.before) (moment_of c.args.set (value_of c.args.given c.args.value.now) c.args.modifiers.now) (sym (gate c.before.before) ∙ c.in-Refused.is); lands = tt; short_format = tt }
