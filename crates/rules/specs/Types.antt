@@ -4,5 +4,6 @@ pub use Rattle.rules.specs.declared.Refusal.{Refusal}
 pub use Rattle.rules.specs.declared.Given.{Given}
 pub use Rattle.rules.specs.declared.Function.{Function}
 pub use Rattle.rules.specs.declared.Answer.{Answer}
+pub use Rattle.rules.specs.declared.Unanswered.{Unanswered}
 pub use Rattle.rules.specs.declared.Ymd.{Ymd}
 pub use Rattle.rules.specs.declared.Time.{Time}
