@@ -99,6 +99,7 @@ fn instant(year: u32, month: u32, day: u32, hour: u32, minute: u32, second: f64,
     requires time_in { TimeIn hour minute true second zone }
     ensures { result ≡ civil_instant year month day hour minute second zone }
 {
+    let date = Ymd { year, month, day };
     let time = Time {
         hour,
         minute,
@@ -106,7 +107,7 @@ fn instant(year: u32, month: u32, day: u32, hour: u32, minute: u32, second: f64,
         zone,
         utc: false,
     };
-    let local = calendar::midnight(year, month, day) + time_ms(time);
+    let local = calendar::midnight(date) + time_ms(time);
     local + 86400000 - zone as u64 * 60000
 }
 
