@@ -3,7 +3,7 @@ use mathlib.Core.Bool.{Bool, true, false, ◌&&◌}
 use Rattle.std.specs.Prelude.{if◌then◌else◌}
 use mathlib.Core.List.{List, [], ◌∷◌}
 use mathlib.Core.Path.{◌≡◌, refl, sym, ap, ◌∙◌, subst}
-use Prim.Native.Nat.{ℕ, ◌+◌, ◌-◌, ◌*◌, ◌%◌, ◌^◌, ◌≤◌, ◌<◌}
+use Prim.Native.Nat.{ℕ, ◌+◌, ◌-◌, ◌*◌, ◌/◌, ◌%◌, ◌^◌, ◌≤◌, ◌<◌}
 use native.Mathlib.Omega.{arith}
 use borrow.Author.Tests.{leb-true}
 use lib.Dec.{eqb, leb, ltb}
@@ -11,7 +11,7 @@ use lib.IntN.{ℤ, pos, negsuc, nat_abs}
 use lib.Ieee.{Float, of_int, round, le}
 use Rattle.rules.specs.Basics.{move}
 use Rattle.rules.specs.Calendar.{year, instant, last, in_range, midnight, civil}
-use Rattle.rules.specs.Floats.{number}
+use Rattle.rules.specs.Floats.{number, ◌⊘◌}
 use Rattle.rules.specs.Functions.{renewed}
 use Rattle.rules.specs.Moments.{Moment, blank, failure, no_zone, counted, clear, set_date, set_dated, set_time, set_timed, set_zone, set_raw, set_subsec, set_utc, set_local, set_counted, set_over, moved, time_ms, with_time, sum_of, count_ms, fill_date, on_time, fill_time, fill, past_end, shift}
 use Rattle.rules.specs.Modifiers.{nearest_ms, at_ms}
@@ -47,27 +47,26 @@ near_moved n t (negsuc k) h a = omega arith
 pub after_more : (m n : ℕ) (p : Moment) → m ≤ n → After m p → After n p
 after_more m n p h a = record { sane = a.sane; years = a.years; near = near_more m n p.ms h a.near }
 
--- ---- a step from p to q that keeps the ranges
-pub record Kept (p q : Moment) : Type 0 where
-  pub sane : Sane p → Sane q
-  pub after : (n : ℕ) → After n p → After n q
+-- ---- a step from p to q that goes no further
+abbrev pub Kept : Moment → Moment → Type 0
+Kept p q = (n : ℕ) → After n p → After n q
 
 abbrev Years : Moment → Type 0
 Years p = p.dated ≡ true → ReadYear p.year
 
 -- field by field: what stays is λ s. s
 kept : (p q : Moment) → (Sane p → Sane q) → (Years p → Years q) → ((n : ℕ) → Near n p.ms → Near n q.ms) → Kept p q
-kept p q s y t = record { sane = s; after = λ n a. record { sane = s a.sane; years = y a.years; near = t n a.near } }
+kept p q s y t n a = record { sane = s a.sane; years = y a.years; near = t n a.near }
 
-pub kept_same : (p : Moment) → Kept p p
-kept_same p = record { sane = λ s. s; after = λ n a. a }
+kept_same : (p : Moment) → Kept p p
+kept_same p n a = a
 
 kept_then : (p q r : Moment) → Kept p q → Kept q r → Kept p r
-kept_then p q r k l = record { sane = λ s. l.sane (k.sane s); after = λ n a. l.after n (k.after n a) }
+kept_then p q r k l n a = l n (k n a)
 
 -- a record anew
 kept_new : (p q : Moment) → (Sane p → After 0 q) → Kept p q
-kept_new p q h = record { sane = λ s. (h s).sane; after = λ n a. after_more 0 n q (omega arith) (h a.sane) }
+kept_new p q h n a = after_more 0 n q (omega arith) (h a.sane)
 
 -- ---- setters
 no_date : {A : Type 0} → false ≡ true → A
@@ -82,8 +81,11 @@ after_blank = record { sane = record { date = omega arith; time = no_time; overs
 after_failure : After 0 failure
 after_failure = record { sane = after_blank.sane; years = no_date; near = omega arith }
 
+clear_sane : (p : Moment) → Sane p → Sane (clear p)
+clear_sane p s = record { date = s.date; time = record { hours = s.time.hours; minutes = s.time.minutes; seconds = no_date; zone_low = omega arith; zone_high = omega arith }; overs = s.overs }
+
 pub clear_kept : (p : Moment) → Kept p (clear p)
-clear_kept p = kept p (clear p) (λ s. record { date = s.date; time = record { hours = s.time.hours; minutes = s.time.minutes; seconds = no_date; zone_low = omega arith; zone_high = omega arith }; overs = s.overs }) (λ _. no_date) (λ n t. t)
+clear_kept p = kept p (clear p) (clear_sane p) (λ _. no_date) (λ n t. t)
 
 pub date_kept : (p : Moment) (y m d : ℕ) → ReadYear y → MonthDay m d → Kept p (set_dated (set_date p y m d) true)
 date_kept p y m d r k = kept p (set_dated (set_date p y m d) true) (λ s. record { date = k; time = s.time; overs = s.overs }) (λ _ _. r) (λ n t. t)
@@ -144,7 +146,7 @@ sum_after p y m d s k e = by_test (λ (q : Moment). After 0 q) (sum_takes y p.ra
         (λ h.
         let day = time_most p.hour p.minute p.second s.time.hours s.time.minutes (s.time.seconds h) in
         either (λ (q : Moment). After 0 q) (eqb p.zone no_zone) _ _ (record { sane = s; years = ys; near = omega arith })
-        (record { sane = (clear_kept p).sane s; years = no_date; near = zoned p.zone _ _ s.time.zone_low s.time.zone_high bottom top day }))
+        (record { sane = clear_sane p s; years = no_date; near = zoned p.zone _ _ s.time.zone_low s.time.zone_high bottom top day }))
         (λ _. record { sane = s; years = ys; near = omega arith })
 
 -- of a record whose milliseconds do not stand
@@ -171,8 +173,11 @@ fill_date_kept p =
     date_cases (λ (q : Moment). Kept p q) p (λ _. kept_same p) (λ h. let c = civil_countable p.ms h in date_kept p _ _ _ (read_year _ _ _ c) c.fields) (λ _ _. kept_new p failure (λ _. after_failure)) (λ _. date_kept p (year 2000) 1 1 (omega arith) (omega arith))
 
 -- t milliseconds after midnight
+pub time_of : {h m zone : ℕ} {b : Bool} {x : Float} (t : ℕ) → t < 86400000 → TimeIn h m b x zone → TimeIn (t / 3600000) (t / 60000 % 60) true (number (t % 60000) ⊘ number 1000) zone
+time_of t h i = record { hours = omega arith; minutes = omega arith; seconds = λ _. filled_minute (t % 60000) (omega arith); zone_low = i.zone_low; zone_high = i.zone_high }
+
 time_kept : (p : Moment) (t : ℕ) → t < 86400000 → Kept p (on_time p t)
-time_kept p t h = kept p (on_time p t) (λ s. record { date = s.date; time = record { hours = omega arith; minutes = omega arith; seconds = λ _. filled_minute (t % 60000) (omega arith); zone_low = s.time.zone_low; zone_high = s.time.zone_high }; overs = s.overs }) (λ y. y) (λ n a. a)
+time_kept p t h = kept p (on_time p t) (λ s. record { date = s.date; time = time_of t h s.time; overs = s.overs }) (λ y. y) (λ n a. a)
 
 pub fill_time_kept : (p : Moment) → Kept p (fill_time p)
 fill_time_kept p = time_cases (λ (q : Moment). Kept p q) p (λ _. kept_same p) (kept_then p (count_ms p) _ (count_kept p) (time_kept (count_ms p) _ (time_high (count_ms p).ms)))
@@ -202,10 +207,10 @@ after_raw n =
 
 -- ---- the modifiers
 pub moved_after : (n : ℕ) (p : Moment) (z : ℤ) → nat_abs z ≤ step_most → After n p → After (n + 1) (clear (moved p z 1))
-moved_after n p z h a = record { sane = (clear_kept p).sane a.sane; years = no_date; near = near_moved n p.ms z h a.near }
+moved_after n p z h a = record { sane = clear_sane p a.sane; years = no_date; near = near_moved n p.ms z h a.near }
 
 pub at_kept : (p : Moment) (r : Float) → nearest_ms r ≤ 464269060800000 → Kept p (at_ms p r)
-at_kept p r h = kept p (at_ms p r) (λ s. (clear_kept p).sane s) (λ _. no_date) (λ n t. omega arith)
+at_kept p r h = kept p (at_ms p r) (clear_sane p) (λ _. no_date) (λ n t. omega arith)
 
 -- what `day_start` makes of a date
 abbrev pub at_start : Moment → Moment
@@ -215,8 +220,11 @@ pub no_seconds : in_minute (number 0) ≡ true
 unfolding of_int round le
 no_seconds = refl
 
+pub midnight_in : TimeIn 0 0 true (number 0) no_zone
+midnight_in = record { hours = omega arith; minutes = omega arith; seconds = λ _. no_seconds; zone_low = omega arith; zone_high = omega arith }
+
 pub start_kept : (p : Moment) → Kept p (at_start p)
-start_kept p = kept p (at_start p) (λ s. record { date = s.date; time = record { hours = omega arith; minutes = omega arith; seconds = λ _. no_seconds; zone_low = omega arith; zone_high = omega arith }; overs = omega arith }) (λ y. y) (λ n t. t)
+start_kept p = kept p (at_start p) (λ s. record { date = s.date; time = midnight_in; overs = omega arith }) (λ y. y) (λ n t. t)
 
 pub month_kept : (p : Moment) → Kept p (first_of_month p)
 month_kept p = kept p (first_of_month p) (λ s. record { date = record { month_low = s.date.month_low; month_high = s.date.month_high; day_low = omega arith; day_high = omega arith }; time = s.time; overs = s.overs }) (λ y. y) (λ n t. t)
@@ -254,7 +262,7 @@ unfolding fill
 fill_full n p a r =
     let i = in_range_lem p.ms r.ranged.from r.ranged.to in
     record {
-      sane = (kept_then p (fill_date p) (fill p) (fill_date_kept p) (fill_time_kept (fill_date p))).sane a.sane;
+      sane = (kept_then p (fill_date p) (fill p) (fill_date_kept p) (fill_time_kept (fill_date p)) n a).sane;
       years = fill_year n p a;
       timed = fill_timed p;
       ranged = subst (λ (t : ℕ). InRange t) (sym (fill_ms p r.stands i)) r.ranged;
@@ -263,4 +271,4 @@ fill_full n p a r =
 pub renewed_full : (n : ℕ) (m : List ℕ) (p : Moment) → After n p → Ranged p → Full (renewed m p)
 unfolding renewed
 renewed_full n (b ∷ m) p a r = fill_full n p a r
-renewed_full n [] p a r = either (λ (q : Moment). Full (fill q)) (p.dated && ltb 28 p.day) (set_dated p false) p (fill_full n (set_dated p false) ((undated_kept p).after n a) (record { ranged = r.ranged; stands = r.stands })) (fill_full n p a r)
+renewed_full n [] p a r = either (λ (q : Moment). Full (fill q)) (p.dated && ltb 28 p.day) (set_dated p false) p (fill_full n (set_dated p false) (undated_kept p n a) (record { ranged = r.ranged; stands = r.stands })) (fill_full n p a r)

@@ -17,7 +17,7 @@ use Rattle.calendar.specs.Ranges.{MonthDay, Countable}
 use Rattle.moment.specs.Ranges.{sum_takes, TimeRead, Sane}
 use Rattle.moment.specs.Sums.{date_meant, time_meant, civil_instant, summed_to}
 use Rattle.moment.proofs.Branches.{branch_false, either, by_test}
-use Rattle.moment.proofs.Bounds.{no_seconds}
+use Rattle.moment.proofs.Bounds.{midnight_in}
 use Rattle.moment.proofs.Steps.{taken, summed, unsummed}
 
 -- ---- what is meant
@@ -40,7 +40,7 @@ date_in p s = either (λ (d : Ymd). MonthDay d.month d.day) p.dated _ _ s.date (
 time_in : (p : Moment) → Sane p → TimeRead (time_meant p)
 time_in p s =
     by_test TimeRead p.timed _ _ (λ h. record { hours = s.time.hours; minutes = s.time.minutes; seconds = λ _. s.time.seconds h; zone_low = s.time.zone_low; zone_high = s.time.zone_high })
-    (λ _. record { hours = omega arith; minutes = omega arith; seconds = λ _. no_seconds; zone_low = omega arith; zone_high = omega arith })
+    (λ _. midnight_in)
 
 pub date_asked : (p : Moment) (d : Ymd) → d ≡ date_meant p → Sane p → sum_takes d.year p.raw ≡ true → Countable d.year d.month d.day
 date_asked p d e s h = taken _ _ _ p.raw (subst (λ (x : Ymd). MonthDay x.month x.day) (sym e) (date_in p s)) h

@@ -20,11 +20,11 @@ returns-then-not-self c = let p = held c.args.self in
 
 pub returns-then-not-is_auto : goal.returns-then-not-is_auto
 returns-then-not-is_auto c = let p = held c.args.self in
-    filled_as (sym (auto_out p (not-false p.raw c.if-not-self.false) c.if-self.false (sym c.is_auto.ensures ∙ c.if-not-is_auto.true))) (same c.args.self c.requires)
+    filled_as (sym (auto_out p (not-false p.raw c.if-not-self.false) c.if-self.false (sym c.is_auto.ensures ∙ c.if-not-is_auto.true))) (same c.args.self)
 
 pub at_ms-requires : goal.at_ms-requires
 at_ms-requires c = let h = auto_ms c.args.self.second (sym c.is_auto.ensures ∙ c.if-not-is_auto.false) in
-    (c.requires, omega (arith, h, ap nearest_ms c.from_epoch.ensures))
+    omega (arith, h, ap nearest_ms c.from_epoch.ensures)
 
 pub returns : goal.returns
 returns c = let p = held c.args.self in

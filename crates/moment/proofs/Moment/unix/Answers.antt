@@ -18,7 +18,7 @@ returns-then-not-is_unix c = let p = held c.args.self in
     refused _ _ _ (unix_out p (not-false p.raw c.if-not-self.false) (sym (c.is_unix.ensures ∙ ap is_unix c.from_epoch-r.ensures) ∙ c.if-not-is_unix.true))
 
 pub at_ms-requires : goal.at_ms-requires
-at_ms-requires c = (c.requires, unix_ms c.from_epoch-r.result (sym c.is_unix.ensures ∙ c.if-not-is_unix.false))
+at_ms-requires c = unix_ms c.from_epoch-r.result (sym c.is_unix.ensures ∙ c.if-not-is_unix.false)
 
 pub returns : goal.returns
 returns c = let p = held c.args.self in
