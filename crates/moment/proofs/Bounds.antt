@@ -3,30 +3,23 @@ use mathlib.Core.Bool.{Bool, true, false, ◌&&◌}
 use Rattle.std.specs.Prelude.{if◌then◌else◌}
 use mathlib.Core.List.{List, [], ◌∷◌}
 use mathlib.Core.Path.{◌≡◌, refl, sym, ap, ◌∙◌, subst}
-use Prim.Native.Nat.{ℕ, ◌+◌, ◌-◌, ◌*◌, ◌/◌, ◌%◌, ◌^◌, ◌≤◌, ◌<◌}
+use Prim.Native.Nat.{ℕ, ◌+◌, ◌-◌, ◌*◌, ◌/◌, ◌%◌, ◌≤◌, ◌<◌}
 use native.Mathlib.Omega.{arith}
 use borrow.Author.Tests.{leb-true}
 use lib.Dec.{eqb, leb, ltb}
-use lib.IntN.{ℤ, pos, negsuc, nat_abs}
 use lib.Ieee.{Float, of_int, round, le}
-use Rattle.rules.specs.Basics.{move}
 use Rattle.rules.specs.Calendar.{year, instant, last, in_range, midnight, civil}
 use Rattle.rules.specs.Floats.{number, ◌⊘◌}
 use Rattle.rules.specs.Functions.{renewed}
-use Rattle.rules.specs.Moments.{Moment, blank, failure, no_zone, counted, clear, set_date, set_dated, set_time, set_timed, set_zone, set_raw, set_subsec, set_utc, set_local, set_counted, set_over, moved, time_ms, with_time, sum_of, count_ms, fill_date, on_time, fill_time, fill, past_end, shift}
-use Rattle.rules.specs.Modifiers.{nearest_ms, at_ms}
-use Rattle.rules.specs.Reading.{timed, settled, now, is_julian, raw_number}
-use Rattle.rules.specs.declared.Time.{Time}
+use Rattle.rules.specs.Moments.{Moment, blank, failure, no_zone, counted, clear, set_date, set_dated, set_time, set_timed, set_zone, set_raw, set_counted, set_over, time_ms, with_time, sum_of, count_ms, fill_date, on_time, fill_time, fill}
 use Rattle.calendar.specs.Ranges.{MonthDay, Countable, InRange}
 use Rattle.calendar.proofs.Counting.{countable}
 use Rattle.calendar.proofs.Instants.{start_is, date_of_lem, time_high}
-use Rattle.calendar.proofs.Years.{days_high, month_low}
+use Rattle.calendar.proofs.Years.{days_high}
 use Rattle.real.specs.InMinute.{in_minute}
-use Rattle.real.specs.StepMost.{step_most}
 use Rattle.real.proofs.Tests.{and_right}
 use Rattle.real.proofs.Seconds.{minute_ms, filled_minute}
-use Rattle.real.proofs.Epoch.{julian_ms_lem}
-use Rattle.moment.specs.Ranges.{sum_takes, TimeIn, TimeRead, Sane, ReadYear, Near, After, most_before, Ranged, Full}
+use Rattle.moment.specs.Ranges.{sum_takes, TimeIn, Sane, ReadYear, Near, After, Ranged, Full}
 use Rattle.moment.specs.Steps.{first_of_month, first_of_year}
 use Rattle.moment.proofs.Branches.{never, either, by_test}
 use Rattle.moment.proofs.Steps.{taken, already, in_range_lem, count_cases, date_cases, time_cases}
@@ -35,14 +28,6 @@ use Rattle.moment.proofs.Steps.{taken, already, in_range_lem, count_cases, date_
 
 pub near_more : (m n t : ℕ) → m ≤ n → Near m t → Near n t
 near_more m n t h k = omega arith
-
--- "With 16 modifiers the milliseconds stay within 64 bits": before the last there is room for one more step either way.
-pub near_room : (t k : ℕ) → Near most_before t → k ≤ step_most → (k < t) × (t + k < 2 ^ 64)
-near_room t k h l = omega arith
-
-pub near_moved : (n t : ℕ) (z : ℤ) → nat_abs z ≤ step_most → Near n t → Near (n + 1) (move t z 1)
-near_moved n t (pos k) h a = omega arith
-near_moved n t (negsuc k) h a = omega arith
 
 pub after_more : (m n : ℕ) (p : Moment) → m ≤ n → After m p → After n p
 after_more m n p h a = record { sane = a.sane; years = a.years; near = near_more m n p.ms h a.near }
@@ -84,33 +69,11 @@ after_failure = record { sane = after_blank.sane; years = no_date; near = omega 
 clear_sane : (p : Moment) → Sane p → Sane (clear p)
 clear_sane p s = record { date = s.date; time = record { hours = s.time.hours; minutes = s.time.minutes; seconds = no_date; zone_low = omega arith; zone_high = omega arith }; overs = s.overs }
 
-pub clear_kept : (p : Moment) → Kept p (clear p)
-clear_kept p = kept p (clear p) (clear_sane p) (λ _. no_date) (λ n t. t)
-
 pub date_kept : (p : Moment) (y m d : ℕ) → ReadYear y → MonthDay m d → Kept p (set_dated (set_date p y m d) true)
 date_kept p y m d r k = kept p (set_dated (set_date p y m d) true) (λ s. record { date = k; time = s.time; overs = s.overs }) (λ _ _. r) (λ n t. t)
 
 pub undated_kept : (p : Moment) → Kept p (set_dated p false)
 undated_kept p = kept p (set_dated p false) (λ s. s) (λ _. no_date) (λ n t. t)
-
-pub over_kept : (p : Moment) → Kept p (set_over p 0)
-over_kept p = kept p (set_over p 0) (λ s. record { date = s.date; time = s.time; overs = omega arith }) (λ y. y) (λ n t. t)
-
--- flags that no range asks for
-pub utc_kept : (p : Moment) → Kept p (set_utc p)
-utc_kept p = kept p (set_utc p) (λ s. s) (λ y. y) (λ n t. t)
-
-pub local_kept : (p : Moment) → Kept p (set_local p)
-local_kept p = kept p (set_local p) (λ s. s) (λ y. y) (λ n t. t)
-
-pub subsec_kept : (p : Moment) (b : Bool) → Kept p (set_subsec p b)
-subsec_kept p b = kept p (set_subsec p b) (λ s. s) (λ y. y) (λ n t. t)
-
-pub raw_kept : (p : Moment) (b : Bool) → Kept p (set_raw p b)
-raw_kept p b = kept p (set_raw p b) (λ s. s) (λ y. y) (λ n t. t)
-
-pub counted_kept : (p : Moment) (b : Bool) → Kept p (set_counted p b)
-counted_kept p b = kept p (set_counted p b) (λ s. s) (λ y. y) (λ n t. t)
 
 -- ---- milliseconds from fields
 read_year : (y m d : ℕ) → Countable y m d → ReadYear y
@@ -161,9 +124,6 @@ pub count_kept : (p : Moment) → Kept p (count_ms p)
 unfolding count_ms
 count_kept p = either (λ (q : Moment). Kept p q) p.counted p _ (kept_same p) (kept_new p _ (fresh p))
 
-pub settled_kept : (p : Moment) → Kept p (settled p)
-settled_kept p = either (λ (q : Moment). Kept p q) (eqb p.zone no_zone) p (count_ms p) (kept_same p) (count_kept p)
-
 -- ---- fields from milliseconds
 civil_countable : (t : ℕ) → in_range t ≡ true → Countable (civil t).year (civil t).month (civil t).day
 civil_countable t h = countable _ _ _ _ (date_of_lem t (leb-true t last (and_right (leb (instant 0) t) _ h)))
@@ -182,36 +142,7 @@ time_kept p t h = kept p (on_time p t) (λ s. record { date = s.date; time = tim
 pub fill_time_kept : (p : Moment) → Kept p (fill_time p)
 fill_time_kept p = time_cases (λ (q : Moment). Kept p q) p (λ _. kept_same p) (kept_then p (count_ms p) _ (count_kept p) (time_kept (count_ms p) _ (time_high (count_ms p).ms)))
 
--- ---- the month's end
-pub end_kept : (p : Moment) → Kept p (past_end p)
-unfolding past_end
-end_kept p = kept p (past_end p) (λ s. record { date = s.date; time = s.time; overs = omega (arith, month_low p.year p.month s.date.month_low s.date.month_high) }) (λ y. y) (λ n t. t)
-
--- ---- what is read
-pub after_timed : (t : Time) → TimeRead t → After 0 (timed t)
-after_timed t b = either (λ (q : Moment). After 0 q) t.utc _ _ (record { sane = s; years = no_date; near = omega arith }) (record { sane = s; years = no_date; near = omega arith })
-  where
-    s : Sane (set_zone (set_timed (set_time blank t.hour t.minute t.second) true) t.zone)
-    s = record { date = omega arith; time = b; overs = omega arith }
-
-pub now_kept : (p : Moment) (clock : ℕ) → clock ≤ 253402300799999 → Kept p (now clock p)
-now_kept p clock h = kept p (now clock p) (λ s. s) (λ y. y) (λ n t. omega arith)
-
-pub after_raw : (n : Float) → After 0 (raw_number n)
-after_raw n =
-    by_test (λ (q : Moment). After 0 q) (is_julian n) _ _ (λ h. let t = julian_ms_lem n h in record { sane = s; years = no_date; near = omega arith })
-    (λ _. record { sane = s; years = no_date; near = omega arith })
-  where
-    s : Sane (set_raw (set_time blank 0 0 n) true)
-    s = record { date = omega arith; time = no_time; overs = omega arith }
-
 -- ---- the modifiers
-pub moved_after : (n : ℕ) (p : Moment) (z : ℤ) → nat_abs z ≤ step_most → After n p → After (n + 1) (clear (moved p z 1))
-moved_after n p z h a = record { sane = clear_sane p a.sane; years = no_date; near = near_moved n p.ms z h a.near }
-
-pub at_kept : (p : Moment) (r : Float) → nearest_ms r ≤ 464269060800000 → Kept p (at_ms p r)
-at_kept p r h = kept p (at_ms p r) (clear_sane p) (λ _. no_date) (λ n t. omega arith)
-
 -- what `day_start` makes of a date
 abbrev pub at_start : Moment → Moment
 at_start p = set_over (set_zone (set_counted (set_raw (set_timed (set_time p 0 0 (number 0)) true) false) false) no_zone) 0
@@ -231,11 +162,6 @@ month_kept p = kept p (first_of_month p) (λ s. record { date = record { month_l
 
 pub year_kept : (p : Moment) → Kept p (first_of_year p)
 year_kept p = kept p (first_of_year p) (λ s. record { date = omega arith; time = s.time; overs = s.overs }) (λ y. y) (λ n t. t)
-
--- a month shift, after which the year may lie out of range
-pub sane_shift : (p : Moment) (z : ℤ) (k : ℕ) → Sane p → Sane (shift p z k)
-unfolding shift
-sane_shift p z k s = let m = move (p.year * 12 + (p.month - 1)) z k in record { date = record { month_low = omega arith; month_high = omega arith; day_low = s.date.day_low; day_high = s.date.day_high }; time = s.time; overs = s.overs }
 
 -- before it the year lies in range
 pub fill_year : (n : ℕ) (p : Moment) → After n p → ReadYear (fill p).year

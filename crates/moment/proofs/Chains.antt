@@ -2,17 +2,16 @@
 use mathlib.Core.Bool.{false}
 use Rattle.std.specs.Prelude.{Ok, Err}
 use mathlib.Core.Path.{◌≡◌, refl, sym, ap, ◌∙◌, subst}
-use Prim.Native.Nat.{◌+◌, ◌≤◌}
+use Prim.Native.Nat.{◌+◌}
 use native.Mathlib.Omega.{arith}
-use lib.IntN.{ℤ, nat_abs}
+use lib.IntN.{ℤ}
 use Rattle.rules.specs.Basics.{Read, got, refuse}
 use Rattle.rules.specs.Moments as rule
 use Rattle.rules.specs.declared.Refusal.{Refusal}
-use Rattle.real.specs.StepMost.{step_most}
 use Rattle.moment.specs.declared.Moment.{Moment}
 use Rattle.moment.specs.Held.{held}
 use Rattle.moment.specs.Ranges.{Sane, After, most_before, Movable, Filled, Moved, Answered}
-use Rattle.moment.proofs.Bounds.{after_more, Kept, count_fresh, moved_after}
+use Rattle.moment.proofs.Bounds.{after_more, Kept, count_fresh}
 
 -- ---- the rules' step, and the code's that hands the same record back
 pub filled : (p : Moment) {r : Moment} {q : rule.Moment} → Kept (held p) q → held r ≡ q → Filled p r q
@@ -23,12 +22,6 @@ same p = record { is = refl; after = λ n a. a }
 
 pub sane_of : (p : Moment) → Sane (held p)
 sane_of p = record { date = p.date_in; time = p.time_in; overs = p.over_in }
-
-pub made : {r q : rule.Moment} → After 0 q → r ≡ q → (r ≡ q) × After 0 r
-made a e = (e, subst (λ (x : rule.Moment). After 0 x) (sym e) a)
-
-pub step_moved : (p : Moment) {r : Moment} (z : ℤ) → nat_abs z ≤ step_most → held r ≡ rule.clear (rule.moved (held p) z 1) → Moved p r (rule.clear (rule.moved (held p) z 1))
-step_moved p z h e = record { is = e; after = λ n a. subst (λ (x : rule.Moment). After (n + 1) x) (sym e) (moved_after n (held p) z h a) }
 
 -- ---- one after another
 module _ {p q r : Moment} {x : rule.Moment} (g : rule.Moment → rule.Moment) where

@@ -21,18 +21,6 @@ use Rattle.moment.proofs.Bounds.{midnight_in}
 use Rattle.moment.proofs.Steps.{taken, summed, unsummed}
 
 -- ---- what is meant
-pub date_known : (p : Moment) → p.dated ≡ true → record { year = p.year; month = p.month; day = p.day } ≡ date_meant p
-date_known p h = rw h
-
-pub date_not : (p : Moment) → p.dated ≡ false → record { year = year 2000; month = 1; day = 1 } ≡ date_meant p
-date_not p h = rw h
-
-pub time_known : (p : Moment) → p.timed ≡ true → record { hour = p.hour; minute = p.minute; second = p.second; zone = p.zone; utc = false } ≡ time_meant p
-time_known p h = rw h
-
-pub time_not : (p : Moment) → p.timed ≡ false → record { hour = 0; minute = 0; second = number 0; zone = no_zone; utc = false } ≡ time_meant p
-time_not p h = rw h
-
 -- its ranges, where it is summed
 date_in : (p : Moment) → Sane p → MonthDay (date_meant p).month (date_meant p).day
 date_in p s = either (λ (d : Ymd). MonthDay d.month d.day) p.dated _ _ s.date (omega arith)
@@ -107,6 +95,3 @@ count_fails p d e c h = sym (count_meant p c ∙ ap (sum_at p) (sym e) ∙ unsum
 -- ---- a zone is taken off at once
 pub settled_not : (p : Moment) → p.zone ≡ no_zone → p ≡ settled p
 settled_not p z = rw (eq-eqb p.zone no_zone z)
-
-pub settled_counts : (p : Moment) → (p.zone ≡ no_zone → ⊥) → count_ms p ≡ settled p
-settled_counts p z = rw (ne_eqb p.zone no_zone z)

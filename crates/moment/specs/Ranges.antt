@@ -1,5 +1,5 @@
 -- What holds of a record on its way through a call, and what a step hands back.
-use Rattle.std.specs.Prelude.{ℕ, ◌+◌, ◌*◌, ◌≤◌, Bool, true, not, ◌&&◌, ◌≡◌, leb, Float, Result, Ok, Err}
+use Rattle.std.specs.Prelude.{ℕ, ◌+◌, ◌*◌, ◌≤◌, Bool, true, not, ◌&&◌, ◌≡◌, leb, Result, Ok, Err}
 use Rattle.rules.specs.Basics.{Read, read_ok}
 use Rattle.rules.specs.Calendar.{year, minus_year, instant}
 use Rattle.rules.specs.Moments as rule

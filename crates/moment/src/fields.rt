@@ -60,6 +60,7 @@ fn summable(year: u32, raw: bool) -> bool
 
 impl Moment {
     // Nothing is known: 2000-01-01 00:00 stands in for what is asked.
+    #[tactic(auto, using(real::proofs::Literals::nil))]
     fn unknown(failed: bool) -> Moment
         ensures { held result ≡ rule.unknown failed }
     {
@@ -152,6 +153,7 @@ impl Moment {
     }
 
     // And the time of day, with its zone: midnight and none where none stands.
+    #[tactic(auto, using(real::proofs::Literals::nil))]
     fn time_meant(self) -> Time
         ensures { result ≡ time_meant (held self) }
     {
@@ -214,6 +216,7 @@ impl Moment {
     // ---- fields from milliseconds: the Rust's compute_ymd and compute_hms
 
     // "Milliseconds to fields takes 0 to the last"; out of it the error record is left.
+    #[tactic(auto, unfolding(rules::specs::Moments::fill_date))]
     pub fn fill_date(self) -> Moment
         ensures { Filled self result (rule.fill_date (held self)) }
     {
@@ -259,6 +262,7 @@ impl Moment {
         self.fill_date().fill_time()
     }
 
+    #[tactic(auto, unfolding(rules::specs::Moments::fill, rules::specs::Moments::fill_date, rules::specs::Moments::fill_time))]
     pub fn fill(self) -> Moment
         ensures { Filled self result (rule.fill (held self)) }
     {
@@ -270,6 +274,7 @@ impl Moment {
 
     // ---- the month's end: the Rust's compute_floor
 
+    #[tactic(auto, unfolding(rules::specs::Moments::past_end))]
     pub fn past_end(mut self) -> Moment
         ensures { Filled self result (rule.past_end (held self)) }
     {
@@ -304,6 +309,7 @@ impl Moment {
     }
 
     // "A number n with 0 <= n < 5373484.5 is also a Julian day."
+    #[tactic(auto, using(real::proofs::Epoch::julian_ms_lem))]
     pub fn raw_number(n: f64) -> Moment
         ensures { (held result ≡ reading.raw_number n) × After 0 (held result) }
     {

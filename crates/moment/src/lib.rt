@@ -13,9 +13,8 @@ ghost use Rattle.calendar.specs.Ranges.{MonthDay};
 ghost use Rattle.real.specs.InMinute.{in_minute};
 ghost use Rattle.moment.specs.Fields.{TimeIn};
 
-pub use settings::{Clock, Offset};
-
 use rules::Time;
+pub use settings::{Clock, Offset};
 
 mod fields;
 mod modify;
@@ -56,6 +55,7 @@ pub struct Moment {
 }
 
 // A time of day in milliseconds. Its zone is not looked at.
+#[tactic(auto, using(real::proofs::Seconds::minute_ms))]
 pub fn time_ms(t: Time) -> u64
     requires { (t.hour ≤ 24) × (t.minute ≤ 59) × (in_minute t.second ≡ true) }
     ensures { (result ≡ rule.time_ms t.hour t.minute t.second) × (result < 90000000) }

@@ -26,6 +26,7 @@ const SUNDAY: u64 = 9223372036725175808;
 
 // The days on to the next day n of the week (0 is Sunday), none if t is one. Before SUNDAY the Rust's quotient and remainder, cut toward
 // zero, are not the day of the week; they are kept.
+#[tactic(auto, unfolding(rules::specs::Modifiers::days_on))]
 fn days_on(n: u64, t: u64) -> u64
     requires { n ≤ 6 }
     ensures { (result ≡ days_on n t) × (result ≤ 12) }
@@ -92,6 +93,7 @@ impl Moment {
     }
 
     // "`auto` takes -210866760000 to 253402300799 if the number is no Julian day." Out of it the number stays as it is.
+    #[tactic(auto, using(real::proofs::Epoch::auto_ms), unfolding(rules::specs::Modifiers::auto))]
     pub fn auto(self) -> Moment
         ensures { Filled self result (modifiers.auto (held self)) }
     {
@@ -115,6 +117,7 @@ impl Moment {
     }
 
     // "`unixepoch` needs a raw number; r must have 0 <= r < 464269060800000, so NaN is refused."
+    #[tactic(auto, using(real::proofs::Epoch::unix_ms), unfolding(rules::specs::Modifiers::unix))]
     pub fn unix(self) -> Result<Moment, Refusal>
         ensures { Answered self result (modifiers.unix (held self)) }
     {
@@ -233,6 +236,7 @@ impl Moment {
 
     // "A month shift keeps the day, which may then run over." "months below one are normalised by signed division": no count of months from
     // the year held as 0 is below one.
+    #[tactic(auto, using(crate::proofs::Ways::move_wraps), unfolding(rules::specs::Moments::shift))]
     pub fn shift(mut self, months: i64) -> Moment
         requires { ReadYear self.year × (unsigned_abs months ≤ 176545) }
         ensures { held result ≡ rule.shift (held self) months 1 }

@@ -1,5 +1,4 @@
 -- `moment::Moment::start_of_day` meets its contract.
-use mathlib.Core.Path.{refl}
 use Rattle.moment.specs.Held.{held}
 use Rattle.real.proofs.Literals.{nil}
 use native.Mathlib.Omega.{arith}
