@@ -70,7 +70,7 @@ impl Moment {
         self
     }
 
-    // The milliseconds moved, and the fields then no longer stand.
+    // The milliseconds moved, and the fields then no longer stand. The sum fits: `Movable` says so.
     fn moved(mut self, by: i64) -> Moment
         requires { Movable (held self) × (unsigned_abs by ≤ step_most) }
         ensures { Moved self result (rule.clear (rule.moved (held self) by 1)) }
@@ -83,7 +83,7 @@ impl Moment {
 
     // The milliseconds are those of r, and nothing else stands.
     fn at_ms(mut self, r: f64) -> Moment
-        requires { (nearest_ms r ≤ 464269060800000) }
+        requires { nearest_ms r ≤ 464269060800000 }
         ensures { Filled self result (modifiers.at_ms (held self) r) }
     {
         self.ms = ZERO + real::nearest_ms(r);
