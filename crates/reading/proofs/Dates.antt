@@ -1,15 +1,14 @@
 -- A date, part by part, with the time after it. Assumes nothing.
-use Prim.Native.Nat.{ℕ, ◌≤◌, ◌<◌}
-use Rattle.std.specs.Prelude.{if◌then◌else◌}
+use Prim.Native.Nat.{ℕ, ◌<◌}
 use mathlib.Core.Bool.{Bool, true, false, true≢false}
 use mathlib.Core.Path.{◌≡◌, refl, sym, ◌∙◌}
 use mathlib.Core.List.{List, [], ◌∷◌}
 use native.Mathlib.Omega.{arith}
 use borrow.Author.Tests.{eqb-true}
-use lib.ListN.{length, drop, length-drop}
+use lib.ListN.{length, drop}
 use Rattle.rules.specs.Basics.{got, other, only_if, ◌>>=◌, byte, digits, digits_on, skip}
 use Rattle.rules.specs.Calendar.{year, minus_year}
-use Rattle.rules.specs.Moments.{Moment, blank, set_time, set_timed, set_zone, set_utc, set_date, set_dated, past_end}
+use Rattle.rules.specs.Moments.{Moment, set_date, set_dated, past_end}
 use Rattle.rules.specs.Reading.{time, timed, time_after, settled, date_from, date_form, time_form}
 use Rattle.rules.specs.declared.Time.{Time}
 use Rattle.text.specs.Places.{begins, after_byte, gap}

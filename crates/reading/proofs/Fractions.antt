@@ -1,5 +1,5 @@
 -- The seconds of a time of day, with their fraction. Assumes nothing.
-use Prim.Native.Nat.{ℕ, ◌+◌, ◌≤◌, ◌<◌}
+use Prim.Native.Nat.{ℕ, ◌≤◌, ◌<◌}
 use Rattle.std.specs.Prelude.{if◌then◌else◌}
 use mathlib.Core.Bool.{Bool, true, false}
 use mathlib.Core.Path.{◌≡◌, refl, sym, ap, ◌∙◌}
@@ -17,7 +17,12 @@ use Rattle.real.proofs.Run.{Digits, run_digits}
 use Rattle.real.proofs.Seconds.{fraction_none, read_minute}
 
 -- ---- no point, and no digit after it
-pub no_pub too_short : (l : List ℕ) → length l < 2 → fraction l ≡ (number 0, l)
+pub no_point : (l : List ℕ) → begins 46 l ≡ false → fraction l ≡ (number 0, l)
+unfolding fraction
+no_point [] h = refl
+no_point (b ∷ l) h = rw h
+
+pub too_short : (l : List ℕ) → length l < 2 → fraction l ≡ (number 0, l)
 unfolding fraction run
 too_short [] h = refl
 too_short (b ∷ []) h = go (is "." b)

@@ -1,14 +1,13 @@
 -- The forms of a time value, in the order in which they are tried. Assumes nothing.
 use Prim.Native.Nat.{ℕ}
-use mathlib.Core.Bool.{true, false, ◌||◌}
+use mathlib.Core.Bool.{false}
 use mathlib.Core.Path.{◌≡◌}
 use mathlib.Core.List.{List}
 use lib.Ieee.{Float}
-use Rattle.rules.specs.Basics.{ascii, word, got, other, refuse, ◌or◌, trim}
+use Rattle.rules.specs.Basics.{ascii, word, got, other, ◌or◌, trim}
 use Rattle.rules.specs.Decimal.{decimal}
-use Rattle.rules.specs.Moments.{Moment, blank, set_subsec}
-use Rattle.rules.specs.Reading.{space, now, raw_number, date_form, time_form, number_form, text_value}
-use Rattle.rules.specs.declared.Refusal.{Refusal}
+use Rattle.rules.specs.Moments.{Moment}
+use Rattle.rules.specs.Reading.{space, raw_number, date_form, time_form, number_form, text_value}
 use Rattle.reading.specs.Readers.{subsec_value}
 
 -- ---- a number

@@ -1,5 +1,4 @@
 use native.Mathlib.Omega.{arith}
-use Rattle.rules.specs.Basics.{skip}
 use Rattle.text.specs.Places.{gap}
 use Rattle.text.proofs.Runs.{skip_le}
 use Rattle.reading.proofs.date_from.Goals as goal
