@@ -30,35 +30,6 @@ pub fn read<R: Read>(input: &mut R, block: &mut [u8]) -> Result<usize, Unread>
     input.read(block).map_err(|_| Unread)
 }
 
-// Calls `row` with each line of the input, until that ends or can't be read. A line has its newline, and what its room doesn't hold is
-// dropped: its last bytes, and its newline too. What stands after the last newline is no line.
-pub fn each_line<R: Read, F: FnMut(&mut [u8])>(
-    input: &mut R,
-    block: &mut [u8],
-    room: &mut [u8],
-    mut row: F,
-)
-    requires { F.IsAlwaysCallable row }
-{
-    let mut have = 0;
-    for _ in 0..u64::MAX {
-        let n = match read(input, block) {
-            Ok(n) if n > 0 => n,
-            _ => return,
-        };
-        for b in &block[..n] {
-            if have < room.len() {
-                room[have] = *b;
-                have += 1;
-            }
-            if *b == b'\n' {
-                row(&mut room[..have]);
-                have = 0;
-            }
-        }
-    }
-}
-
 // Writes all bytes. Some of them may have been written where it fails: it stops at the first write that does, or that takes nothing.
 // Of no bytes it makes no call.
 pub fn write_all<W: Write>(out: &mut W, bytes: &[u8]) -> Result<(), Unwritten>

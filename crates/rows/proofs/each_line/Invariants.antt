@@ -1,6 +1,6 @@
 -- What is kept of a line lies within its room.
 use Rattle.std.proofs.Common.{◌≤◌, length}
-use Rattle.streams.proofs.each_line.Given as goal
+use Rattle.rows.proofs.each_line.Given as goal
 
 abbrev pub invariant-loop : goal.invariant-loop
 invariant-loop g l = goal.F-IsAlwaysCallable g l.row × (l.have ≤ length l.room)
