@@ -1,6 +1,7 @@
 -- The leap rule, and the lengths of months and years. Assumes nothing.
 use mathlib.Core.Path.{◌≡◌, refl}
 use Rattle.std.specs.Prelude.{if◌then◌else◌}
+use Rattle.std.specs.Int.{from_bool}
 use mathlib.Core.Bool.{Bool, true, false, not, ◌&&◌, ◌||◌}
 use mathlib.Core.List.{List, [], ◌∷◌}
 use Prim.Native.Nat.{ℕ, zero, suc, ◌+◌, ◌-◌, ◌*◌, ◌/◌, ◌%◌, ◌≤◌, ◌<◌}
@@ -50,11 +51,11 @@ twelve y = go (leap y)
     go true = refl
     go false = refl
 
--- the row of a table of two that `leap_row` says
-pub row : (y r : ℕ) (common leaps : List ℕ) → r ≡ leap_day y → get_or (common ∷ leaps ∷ []) r [] ≡ (if leap y then leaps else common)
+-- the row of a table of two: that of leap years is the second
+pub row : (y r : ℕ) (common leaps : List ℕ) → r ≡ from_bool (leap y) → get_or (common ∷ leaps ∷ []) r [] ≡ (if leap y then leaps else common)
 row y r common leaps = go (leap y)
   where
-    go : (b : Bool) → r ≡ (if b then 1 else 0) → get_or (common ∷ leaps ∷ []) r [] ≡ (if b then leaps else common)
+    go : (b : Bool) → r ≡ from_bool b → get_or (common ∷ leaps ∷ []) r [] ≡ (if b then leaps else common)
     go true e = rw e
     go false e = rw e
 

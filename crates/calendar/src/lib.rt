@@ -41,15 +41,12 @@ const BEFORE: [[u16; 12]; 2] = [
     [0, 31, 60, 91, 121, 152, 182, 213, 244, 274, 305, 335],
 ];
 
-// The row of these tables for a year: 1 where it is leap.
-pub fn leap_row(year: u32) -> usize
-    ensures { (result ≡ (if rule.leap year then 1 else 0)) × (result ≤ 1) }
+// Whether a year is leap: "A year is leap if 4 divides it and 100 does not, or 400 does."
+#[tactic(auto, unfolding(rules::specs::Calendar::leap))]
+pub fn is_leap(year: u32) -> bool
+    ensures { result ≡ rule.leap year }
 {
-    if year % 4 == 0 && year % 100 != 0 || year % 400 == 0 {
-        1
-    } else {
-        0
-    }
+    year % 4 == 0 && year % 100 != 0 || year % 400 == 0
 }
 
 // The days of a month.
@@ -57,29 +54,25 @@ pub fn month_length(year: u32, month: u32) -> u32
     requires { (1 ≤ month) × (month ≤ 12) }
     ensures { (result ≡ rule.month_length year month) × (28 ≤ result) × (result ≤ 31) }
 {
-    let row = leap_row(year);
-    let before = month as usize - 1;
-    LENGTHS[row][before] as u32
+    u32::from(LENGTHS[usize::from(is_leap(year))][month as usize - 1])
 }
 
 // The days of the year before a day: 0 on 1 January. The day may lie past its month's end.
-pub fn day_of_year(year: u32, month: u32, day: u32) -> u32
-    requires { MonthDay month day }
-    ensures { (result ≡ rule.day_of_year year month day) × (result ≤ 365) }
+pub fn day_of_year(date: Ymd) -> u32
+    requires { MonthDay date.month date.day }
+    ensures { (result ≡ rule.day_of_year date.year date.month date.day) × (result ≤ 365) }
 {
-    let row = leap_row(year);
-    let before = month as usize - 1;
-    BEFORE[row][before] as u32 + (day - 1)
+    u32::from(BEFORE[usize::from(is_leap(date.year))][date.month as usize - 1]) + date.day - 1
 }
 
 // The days from -4713-01-01 to a date, whose day may lie past its month's end: 365 for each year and one for each leap year before this
 // one. Both are counted from the year held as 0, and what comes before -4713 is taken off.
-pub fn days_to(year: u32, month: u32, day: u32) -> u32
-    requires { Countable year month day }
-    ensures { (result ≡ rule.days_to year month day) × (result ≤ last_day) }
+pub fn days_to(date: Ymd) -> u32
+    requires { Countable date.year date.month date.day }
+    ensures { (result ≡ rule.days_to date.year date.month date.day) × (result ≤ last_day) }
 {
-    let past = year - 1;
-    365 * year + past / 4 - past / 100 + past / 400 - 12888312 + day_of_year(year, month, day)
+    let past = date.year - 1;
+    365 * date.year + past / 4 - past / 100 + past / 400 - 12888312 + day_of_year(date)
 }
 
 // The date that many days after -4713-01-01. The head of this file derives it.
@@ -110,14 +103,16 @@ pub fn date_after(days: u32) -> Ymd
 }
 
 // The instant at which a date begins, START at the earliest. Its day may lie past its month's end.
-pub fn midnight(year: u32, month: u32, day: u32) -> u64
-    requires { Countable year month day }
-    ensures { (result ≡ rule.midnight year month day) × (9223372008558775808 ≤ result) × (result + 86399999 ≤ rule.last) }
+#[tactic(auto, using(crate::proofs::Instants::start_is), unfolding(rules::specs::Calendar::midnight))]
+pub fn midnight(date: Ymd) -> u64
+    requires { Countable date.year date.month date.day }
+    ensures { (result ≡ rule.midnight date.year date.month date.day) × (9223372008558775808 ≤ result) × (result + 86399999 ≤ rule.last) }
 {
-    START + days_to(year, month, day) as u64 * DAY
+    START + u64::from(days_to(date)) * DAY
 }
 
 // The days from -4713-01-01 to an instant: DAY_ZERO at the earliest.
+#[tactic(auto, using(crate::proofs::Instants::start_is), unfolding(rules::specs::Calendar::day_of))]
 pub fn day_of(ms: u64) -> u32
     requires { InRange ms }
     ensures { (result ≡ rule.day_of ms) × (327 ≤ result) × (result ≤ last_day) }
@@ -126,17 +121,15 @@ pub fn day_of(ms: u64) -> u32
 }
 
 // The milliseconds since midnight, for any instant. Before -4713-01-01, where no day is counted, the rules say 0.
+#[tactic(auto, using(crate::proofs::Instants::start_is), unfolding(rules::specs::Calendar::time_of_day))]
 pub fn time_of_day(ms: u64) -> u32
     ensures { (result ≡ rule.time_of_day ms) × (result < 86400000) }
 {
-    if ms < START {
-        0
-    } else {
-        ((ms - START) % DAY) as u32
-    }
+    (ms.saturating_sub(START) % DAY) as u32
 }
 
 // The date of an instant.
+#[tactic(auto, unfolding(rules::specs::Calendar::civil))]
 pub fn civil(ms: u64) -> Ymd
     requires { InRange ms }
     ensures { (result ≡ rule.civil ms) × Countable result.year result.month result.day }
@@ -145,6 +138,7 @@ pub fn civil(ms: u64) -> Ymd
 }
 
 // The days since Monday: 0 on Monday to 6 on Sunday.
+#[tactic(auto, using(crate::proofs::Instants::day_zero_lem), unfolding(rules::specs::Calendar::since_monday))]
 pub fn since_monday(ms: u64) -> u32
     requires { InRange ms }
     ensures { (result ≡ rule.since_monday ms) × (result ≤ 6) }
@@ -153,6 +147,7 @@ pub fn since_monday(ms: u64) -> u32
 }
 
 // The days since Sunday: 0 on Sunday to 6 on Saturday.
+#[tactic(auto, using(crate::proofs::Instants::day_zero_lem), unfolding(rules::specs::Calendar::since_sunday))]
 pub fn since_sunday(ms: u64) -> u32
     requires { InRange ms }
     ensures { (result ≡ rule.since_sunday ms) × (result ≤ 6) }
@@ -161,6 +156,7 @@ pub fn since_sunday(ms: u64) -> u32
 }
 
 // The Thursday of an instant's week, which goes from Monday to Sunday: its year is the ISO year.
+#[tactic(auto, using(crate::proofs::Weeks::thursday_high), unfolding(rules::specs::Calendar::thursday))]
 pub fn thursday(ms: u64) -> Ymd
     requires { InRange ms }
     ensures { (result ≡ rule.thursday ms) × Countable result.year result.month result.day }
@@ -169,10 +165,10 @@ pub fn thursday(ms: u64) -> Ymd
 }
 
 // The ISO week, from 1.
+#[tactic(auto, unfolding(rules::specs::Calendar::iso_week))]
 pub fn iso_week(ms: u64) -> u32
     requires { InRange ms }
     ensures { (result ≡ rule.iso_week ms) × (1 ≤ result) × (result ≤ 53) }
 {
-    let date = thursday(ms);
-    day_of_year(date.year, date.month, date.day) / 7 + 1
+    day_of_year(thursday(ms)) / 7 + 1
 }

@@ -7,14 +7,14 @@ use Prim.Native.Nat.{ℕ, ◌+◌, ◌-◌, ◌*◌, ◌%◌, ◌^◌, ◌≤◌
 use native.Mathlib.Omega.{arith}
 use borrow.Author.Tests.{leb-true}
 use lib.Dec.{eqb, leb, ltb}
-use lib.IntN.{ℤ}
+use lib.IntN.{ℤ, pos, negsuc, nat_abs}
 use lib.Ieee.{Float, of_int, round, le}
 use Rattle.rules.specs.Basics.{move}
 use Rattle.rules.specs.Calendar.{year, instant, last, in_range, midnight, civil}
 use Rattle.rules.specs.Floats.{number}
 use Rattle.rules.specs.Functions.{renewed}
 use Rattle.rules.specs.Moments.{Moment, blank, failure, no_zone, counted, clear, set_date, set_dated, set_time, set_timed, set_zone, set_raw, set_subsec, set_utc, set_local, set_counted, set_over, moved, time_ms, with_time, sum_of, count_ms, fill_date, on_time, fill_time, fill, past_end, shift}
-use Rattle.rules.specs.Modifiers.{signed, nearest_ms, at_ms}
+use Rattle.rules.specs.Modifiers.{nearest_ms, at_ms}
 use Rattle.rules.specs.Reading.{timed, settled, now, is_julian, raw_number}
 use Rattle.rules.specs.declared.Time.{Time}
 use Rattle.calendar.specs.Ranges.{MonthDay, Countable, InRange}
@@ -30,7 +30,6 @@ use Rattle.moment.specs.Ranges.{sum_takes, TimeIn, TimeRead, Sane, ReadYear, Nea
 use Rattle.moment.specs.Steps.{first_of_month, first_of_year}
 use Rattle.moment.proofs.Branches.{never, either, by_test}
 use Rattle.moment.proofs.Steps.{taken, already, in_range_lem, count_cases, date_cases, time_cases}
-use Rattle.moment.proofs.Ways.{move_back}
 
 -- ---- how far from the millisecond 0
 
@@ -41,9 +40,9 @@ near_more m n t h k = omega arith
 pub near_room : (t k : ℕ) → Near most_before t → k ≤ step_most → (k < t) × (t + k < 2 ^ 64)
 near_room t k h l = omega arith
 
-pub near_moved : (n t k : ℕ) (b : Bool) → k ≤ step_most → Near n t → Near (n + 1) (move t (signed b k) 1)
-near_moved n t k false h a = omega arith
-near_moved n t k true h a = rw (move_back t k 1) (omega arith)
+pub near_moved : (n t : ℕ) (z : ℤ) → nat_abs z ≤ step_most → Near n t → Near (n + 1) (move t z 1)
+near_moved n t (pos k) h a = omega arith
+near_moved n t (negsuc k) h a = omega arith
 
 pub after_more : (m n : ℕ) (p : Moment) → m ≤ n → After m p → After n p
 after_more m n p h a = record { sane = a.sane; years = a.years; near = near_more m n p.ms h a.near }
@@ -202,8 +201,8 @@ after_raw n =
     s = record { date = omega arith; time = no_time; overs = omega arith }
 
 -- ---- the modifiers
-pub moved_after : (n : ℕ) (p : Moment) (b : Bool) (k : ℕ) → k ≤ step_most → After n p → After (n + 1) (clear (moved p (signed b k) 1))
-moved_after n p b k h a = record { sane = (clear_kept p).sane a.sane; years = no_date; near = near_moved n p.ms k b h a.near }
+pub moved_after : (n : ℕ) (p : Moment) (z : ℤ) → nat_abs z ≤ step_most → After n p → After (n + 1) (clear (moved p z 1))
+moved_after n p z h a = record { sane = (clear_kept p).sane a.sane; years = no_date; near = near_moved n p.ms z h a.near }
 
 pub at_kept : (p : Moment) (r : Float) → nearest_ms r ≤ 464269060800000 → Kept p (at_ms p r)
 at_kept p r h = kept p (at_ms p r) (λ s. (clear_kept p).sane s) (λ _. no_date) (λ n t. omega arith)

@@ -1,15 +1,15 @@
 -- From the rules' steps to the contracts of the code's, one and one after another. Assumes nothing.
-use mathlib.Core.Bool.{Bool, false}
+use mathlib.Core.Bool.{false}
+use Rattle.std.specs.Prelude.{Ok, Err}
 use mathlib.Core.Path.{◌≡◌, refl, sym, ap, ◌∙◌, subst}
-use Prim.Native.Nat.{ℕ, ◌+◌, ◌≤◌}
+use Prim.Native.Nat.{◌+◌, ◌≤◌}
 use native.Mathlib.Omega.{arith}
+use lib.IntN.{ℤ, nat_abs}
 use Rattle.rules.specs.Basics.{Read, got, refuse}
 use Rattle.rules.specs.Moments as rule
-use Rattle.rules.specs.Modifiers.{signed}
 use Rattle.rules.specs.declared.Refusal.{Refusal}
 use Rattle.real.specs.StepMost.{step_most}
 use Rattle.moment.specs.declared.Moment.{Moment}
-use Rattle.moment.specs.declared.Step.TheVariants.{Next, Refused}
 use Rattle.moment.specs.Held.{held}
 use Rattle.moment.specs.Ranges.{Sane, After, most_before, Movable, Filled, Moved, Answered}
 use Rattle.moment.proofs.Bounds.{after_more, Kept, kept_same, clear_kept, count_fresh, moved_after}
@@ -24,8 +24,8 @@ same p s = filled p (kept_same (held p)) s refl
 pub made : {r : Moment} {q : rule.Moment} → After 0 q → held r ≡ q → (held r ≡ q) × After 0 (held r)
 made a e = (e, subst (λ (x : rule.Moment). After 0 x) (sym e) a)
 
-pub step_moved : (p : Moment) {r : Moment} (b : Bool) (k : ℕ) → Sane (held p) → k ≤ step_most → held r ≡ rule.clear (rule.moved (held p) (signed b k) 1) → Moved p r (rule.clear (rule.moved (held p) (signed b k) 1))
-step_moved p b k s h e = record { is = e; sane = subst (λ (x : rule.Moment). Sane x) (sym e) ((clear_kept (held p)).sane s); after = λ n a. subst (λ (x : rule.Moment). After (n + 1) x) (sym e) (moved_after n (held p) b k h a) }
+pub step_moved : (p : Moment) {r : Moment} (z : ℤ) → Sane (held p) → nat_abs z ≤ step_most → held r ≡ rule.clear (rule.moved (held p) z 1) → Moved p r (rule.clear (rule.moved (held p) z 1))
+step_moved p z s h e = record { is = e; sane = subst (λ (x : rule.Moment). Sane x) (sym e) ((clear_kept (held p)).sane s); after = λ n a. subst (λ (x : rule.Moment). After (n + 1) x) (sym e) (moved_after n (held p) z h a) }
 
 -- ---- one after another
 module _ {p q r : Moment} {x : rule.Moment} (g : rule.Moment → rule.Moment) where
@@ -61,8 +61,17 @@ module _ {p r : Moment} {x : rule.Moment} where
   pub moved_as : {y : rule.Moment} → x ≡ y → Moved p r x → Moved p r y
   moved_as e f = record { is = f.is ∙ e; sane = f.sane; after = f.after }
 
-  pub answered : {y : Read rule.Moment} → y ≡ got x → Filled p r x → Answered p (Next r) y
+  pub answered : {y : Read rule.Moment} → y ≡ got x → Filled p r x → Answered p (Ok r) y
   answered e f = record { is = ap got f.is ∙ sym e; after = f.after }
 
-pub refused : (p : Moment) (y : Read rule.Moment) (n : Refusal) → y ≡ refuse n → Answered p (Refused n) y
+pub refused : (p : Moment) (y : Read rule.Moment) (n : Refusal) → y ≡ refuse n → Answered p (Err n) y
 refused p y n e = record { is = sym e; after = λ n a. tt }
+
+-- a record filled, its months moved, and the days by which its day then lies past its month's end
+module _ {p f u s e : Moment} (z : ℤ) (i : Filled p f (rule.fill (held p))) (j : Filled f u (rule.set_counted (held f) false)) (k : held s ≡ rule.shift (held u) z 1) (l : Filled s e (rule.past_end (held s))) where
+  pub shifted : held e ≡ rule.past_end (rule.shift (rule.set_counted (rule.fill (held p)) false) z 1)
+  shifted = l.is ∙ ap rule.past_end (k ∙ ap (λ (q : rule.Moment). rule.shift q z 1) (j.is ∙ ap (λ (q : rule.Moment). rule.set_counted q false) i.is))
+
+  pub shifted_uncounted : (held e).counted ≡ false
+  unfolding rule.past_end rule.shift
+  shifted_uncounted = ap (λ (q : rule.Moment). q.counted) shifted

@@ -1,9 +1,9 @@
 -- What each step of the rules gives, case by case. Assumes nothing.
 use mathlib.Core.Bool.{Bool, true, false, not}
 use Rattle.std.specs.Prelude.{if◌then◌else◌}
+use mathlib.Core.Logic.{◌⊎◌, inl, inr}
 use mathlib.Core.Path.{◌≡◌, sym, ap, ◌∙◌}
 use Prim.Native.Nat.{ℕ, ◌+◌, ◌≤◌, ◌<◌}
-use native.Mathlib.Omega.{arith}
 use borrow.Author.Tests.{eq-eqb, le-leb, lt-leb, leb-true}
 use lib.Dec.{eqb, leb}
 use lib.Ieee.{Float}
@@ -73,14 +73,9 @@ date_unknown p h k = rw (h, k)
 pub in_range_lem : (t : ℕ) → instant 0 ≤ t → t ≤ last → in_range t ≡ true
 in_range_lem t a b = rw (le-leb (instant 0) t a) (le-leb t last b)
 
-pub before_range : (t : ℕ) → t < instant 0 → in_range t ≡ false
-before_range t h = rw (lt-leb (instant 0) t h)
-
-pub from_range : (t : ℕ) → instant 0 ≤ t → in_range t ≡ leb t last
-from_range t h = rw (le-leb (instant 0) t h)
-
-pub after_range : (t : ℕ) → last < t → in_range t ≡ false
-after_range t h = rw (le-leb (instant 0) t (omega arith), lt-leb t last h)
+pub out_of_range : (t : ℕ) → (t < instant 0) ⊎ ((instant 0 ≤ t) × (last < t)) → in_range t ≡ false
+out_of_range t (inl h) = rw (lt-leb (instant 0) t h)
+out_of_range t (inr (k, h)) = rw (le-leb (instant 0) t k, lt-leb t last h)
 
 pub date_filled : (p : Moment) → p.dated ≡ false → p.counted ≡ true → in_range p.ms ≡ true → fill_date p ≡ on_date p (civil p.ms)
 unfolding fill_date

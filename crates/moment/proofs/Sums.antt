@@ -14,8 +14,8 @@ use Rattle.rules.specs.Reading.{settled}
 use Rattle.rules.specs.declared.Time.{Time}
 use Rattle.rules.specs.declared.Ymd.{Ymd}
 use Rattle.calendar.specs.Ranges.{MonthDay, Countable}
-use Rattle.moment.specs.Ranges.{sum_takes, TimeIn, TimeRead, Sane}
-use Rattle.moment.specs.Sums.{date_meant, time_meant, civil_instant, summed_to, Unsettled}
+use Rattle.moment.specs.Ranges.{sum_takes, TimeRead, Sane}
+use Rattle.moment.specs.Sums.{date_meant, time_meant, civil_instant, summed_to}
 use Rattle.moment.proofs.Branches.{branch_false, either, by_test}
 use Rattle.moment.proofs.Bounds.{no_seconds}
 use Rattle.moment.proofs.Steps.{taken, summed, unsummed}
@@ -108,17 +108,5 @@ count_fails p d e c h = sym (count_meant p c ∙ ap (sum_at p) (sym e) ∙ unsum
 pub settled_not : (p : Moment) → p.zone ≡ no_zone → p ≡ settled p
 settled_not p z = rw (eq-eqb p.zone no_zone z)
 
-settled_counts : (p : Moment) → (p.zone ≡ no_zone → ⊥) → count_ms p ≡ settled p
+pub settled_counts : (p : Moment) → (p.zone ≡ no_zone → ⊥) → count_ms p ≡ settled p
 settled_counts p z = rw (ne_eqb p.zone no_zone z)
-
-pub settled_fails : (p : Moment) → Unsettled p → (p.zone ≡ no_zone → ⊥) → sum_takes p.year p.raw ≡ false → failure ≡ settled p
-settled_fails p u z h = count_fails p _ (date_known p u.dated) u.fresh.uncounted h ∙ settled_counts p z
-
-settled_timed : (p : Moment) → Unsettled p → (p.zone ≡ no_zone → ⊥) → p.timed ≡ true
-settled_timed p u z = u.fresh.timed (ne_eqb p.zone no_zone z)
-
-pub settled_time : (p : Moment) → Sane p → Unsettled p → (p.zone ≡ no_zone → ⊥) → TimeIn p.hour p.minute true p.second p.zone
-settled_time p s u z = time_asked p _ (time_known p (settled_timed p u z)) s
-
-pub settled_sums : (p : Moment) (n : ℕ) → Unsettled p → n ≡ civil_instant p.year p.month p.day p.hour p.minute p.second p.zone → (p.zone ≡ no_zone → ⊥) → sum_takes p.year p.raw ≡ true → summed_to p n p.zone ≡ settled p
-settled_sums p n u g z h = count_sums p _ _ n (date_known p u.dated) (time_known p (settled_timed p u z)) g u.fresh.uncounted h ∙ settled_counts p z

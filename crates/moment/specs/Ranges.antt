@@ -1,15 +1,14 @@
 -- The ranges in which the record's fields lie, whatever it has gone through.
-use Rattle.std.specs.Prelude.{ℕ, ◌+◌, ◌*◌, ◌≤◌, Bool, true, not, ◌&&◌, ◌≡◌, leb, Float}
-use Rattle.rules.specs.Basics.{Read, got, refuse}
+use Rattle.std.specs.Prelude.{ℕ, ◌+◌, ◌*◌, ◌≤◌, Bool, true, not, ◌&&◌, ◌≡◌, leb, Float, Result, Ok, Err}
+use Rattle.rules.specs.Basics.{Read, read_ok}
 use Rattle.rules.specs.Calendar.{year, minus_year, instant}
 use Rattle.rules.specs.Moments as rule
+use Rattle.rules.specs.declared.Refusal.{Refusal}
 use Rattle.rules.specs.declared.Time.{Time}
 use Rattle.calendar.specs.Ranges.{MonthDay, InRange}
 use Rattle.real.specs.InMinute.{in_minute}
 use Rattle.real.specs.StepMost.{step_most}
 use Rattle.moment.specs.declared.Moment.{Moment}
-use Rattle.moment.specs.declared.Step.{Step}
-use Rattle.moment.specs.declared.Step.TheVariants.{Next, Refused}
 use Rattle.moment.specs.Held.{held}
 
 -- a time of day as it is read or filled: hour 24 too, the seconds where the time stands, a zone of at most 14:59, as it is held
@@ -86,16 +85,15 @@ pub record Moved (p r : Moment) (q : rule.Moment) : Type 0 where
   pub after : (n : ℕ) → After n (held p) → After (n + 1) (held r)
 
 -- ---- and one that may be refused
-abbrev pub read_of : Step → Read rule.Moment
-read_of (Next p) = got (held p)
-read_of (Refused x) = refuse x
+abbrev pub read_of : Result Moment Refusal → Read rule.Moment
+read_of r = read_ok held r
 
 -- what holds of the record, if there is one
-abbrev pub Lands : (rule.Moment → Type 0) → Step → Type 0
-Lands P (Next p) = P (held p)
-Lands P (Refused x) = Unit {0}
+abbrev pub Lands : (rule.Moment → Type 0) → Result Moment Refusal → Type 0
+Lands P (Ok p) = P (held p)
+Lands P (Err x) = Unit {0}
 
 -- s for p, where the rules say q
-pub record Answered (p : Moment) (s : Step) (q : Read rule.Moment) : Type 0 where
+pub record Answered (p : Moment) (s : Result Moment Refusal) (q : Read rule.Moment) : Type 0 where
   pub is : read_of s ≡ q
   pub after : (n : ℕ) → After n (held p) → Lands (λ r. After n r) s

@@ -6,19 +6,21 @@
 // every field stays in its range (`Sane`), and how far the milliseconds have gone after so many modifiers (`After`).
 #![tactic(auto)]
 
-ghost use Rattle.std.specs.Prelude.{◌≡◌, true, ◌-◌, ◌≤◌, ◌<◌};
+ghost use Rattle.std.specs.Prelude.{◌≡◌, true, ◌^◌, ◌≤◌, ◌<◌};
 ghost use Rattle.rules.specs.Moments as rule;
+ghost use Rattle.rules.specs.Modifiers.{signed};
 ghost use Rattle.rules.specs.Reading as reading;
 ghost use Rattle.calendar.specs.Ranges.{MonthDay, Countable};
 ghost use Rattle.real.specs.InMinute.{in_minute};
 ghost use Rattle.moment.specs.Held.{held};
 ghost use Rattle.moment.specs.Ranges.{sum_takes, TimeIn, TimeRead, ReadYear, Sane, After, Filled};
-ghost use Rattle.moment.specs.Sums.{date_meant, time_meant, civil_instant, summed_to, Unsettled};
+ghost use Rattle.moment.specs.Sums.{date_meant, time_meant, civil_instant, summed_to};
 
-use rules::{Refusal, Time, Ymd};
+use rules::{Time, Ymd};
+pub use settings::{Clock, Offset};
 
 mod modify;
-mod signs;
+mod settings;
 
 #[derive(Clone, Copy)]
 pub struct Moment {
@@ -50,13 +52,6 @@ pub struct Moment {
     pub local: bool,
 }
 
-// What comes of a step that may be refused.
-#[derive(Clone, Copy)]
-pub enum Step {
-    Next(Moment),
-    Refused(Refusal),
-}
-
 // The millisecond 0 and the last, and the Unix epoch.
 const ZERO: u64 = 9223372036854775808;
 
@@ -72,24 +67,47 @@ const LAST_YEAR: u32 = 49999;
 // The date that stands in for one that is not known: 2000-01-01.
 const YEAR_2000: u32 = 42000;
 
+const UNKNOWN_DATE: Ymd = Ymd {
+    year: YEAR_2000,
+    month: 1,
+    day: 1,
+};
+
 const NO_ZONE: u32 = 1440;
 
-// A time of day in milliseconds.
-pub fn time_ms(hour: u32, minute: u32, second: f64) -> u64
-    requires { (hour ≤ 24) × (minute ≤ 59) × (in_minute second ≡ true) }
-    ensures { (result ≡ rule.time_ms hour minute second) × (result < 90000000) }
+// A time of day in milliseconds. Its zone is not looked at.
+pub fn time_ms(t: Time) -> u64
+    requires { (t.hour ≤ 24) × (t.minute ≤ 59) × (in_minute t.second ≡ true) }
+    ensures { (result ≡ rule.time_ms t.hour t.minute t.second) × (result < 90000000) }
 {
-    hour as u64 * 3600000 + minute as u64 * 60000 + real::seconds_ms(second)
+    t.hour as u64 * 3600000 + t.minute as u64 * 60000 + real::seconds_ms(t.second)
 }
 
-// The instant of a date and a time of day in a zone. No zone, held as 1440 minutes, is 86400000 ms. It takes numbers, and has two callers: so
-// it stays a function, counting around it is inlined, and records stay in registers (docs/SPEED.md).
+// A count with its sign: back after a minus, else forward.
+pub fn signed(minus: bool, size: u64) -> i64
+    requires { size < 2 ^ 63 }
+    ensures { result ≡ signed minus size }
+{
+    if minus { -(size as i64) } else { size as i64 }
+}
+
+// The instant of a date and a time of day in a zone. No zone, held as 1440 minutes, is 86400000 ms. It takes numbers and stays a function:
+// counting around it is then inlined, and records stay in registers (docs/SPEED.md).
+#[inline(never)]
 fn instant(year: u32, month: u32, day: u32, hour: u32, minute: u32, second: f64, zone: u32) -> u64
     requires countable { Countable year month day }
     requires time_in { TimeIn hour minute true second zone }
     ensures { result ≡ civil_instant year month day hour minute second zone }
 {
-    let local = calendar::midnight(year, month, day) + time_ms(hour, minute, second);
+    let date = Ymd { year, month, day };
+    let time = Time {
+        hour,
+        minute,
+        second,
+        zone,
+        utc: false,
+    };
+    let local = calendar::midnight(date) + time_ms(time);
     local + 86400000 - zone as u64 * 60000
 }
 
@@ -97,20 +115,7 @@ fn instant(year: u32, month: u32, day: u32, hour: u32, minute: u32, second: f64,
 fn summable(year: u32, raw: bool) -> bool
     ensures { result ≡ sum_takes year raw }
 {
-    if year < FIRST_YEAR {
-        return false;
-    }
-    if year > LAST_YEAR {
-        return false;
-    }
-    !raw
-}
-
-// The days by which a day lies past its month's end.
-fn days_past(day: u32, length: u32) -> u32
-    ensures { result ≡ day - length }
-{
-    if day > length { day - length } else { 0 }
+    FIRST_YEAR <= year && year <= LAST_YEAR && !raw
 }
 
 impl Moment {
@@ -182,13 +187,13 @@ impl Moment {
         self
     }
 
-    pub fn on_date(mut self, year: u32, month: u32, day: u32) -> Moment
-        requires { Sane (held self) × ReadYear year × MonthDay month day }
-        ensures { Filled self result (rule.set_dated (rule.set_date (held self) year month day) true) }
+    pub fn on_date(mut self, date: Ymd) -> Moment
+        requires { Sane (held self) × ReadYear date.year × MonthDay date.month date.day }
+        ensures { Filled self result (rule.on_date (held self) date) }
     {
-        self.year = year;
-        self.month = month;
-        self.day = day;
+        self.year = date.year;
+        self.month = date.month;
+        self.day = date.day;
         self.dated = true;
         self
     }
@@ -206,11 +211,7 @@ impl Moment {
                 day: self.day,
             };
         }
-        Ymd {
-            year: YEAR_2000,
-            month: 1,
-            day: 1,
-        }
+        UNKNOWN_DATE
     }
 
     // And the time of day, with its zone: midnight and none where none stands.
@@ -267,25 +268,13 @@ impl Moment {
 
     // The zone of a date and time that were read is taken off at once; without one the record stays.
     pub fn settled(self) -> Moment
-        requires { Sane (held self) × Unsettled (held self) }
+        requires { Sane (held self) }
         ensures { Filled self result (reading.settled (held self)) }
     {
         if self.zone == NO_ZONE {
             return self;
         }
-        if !summable(self.year, self.raw) {
-            return Moment::failure();
-        }
-        let ms = instant(
-            self.year,
-            self.month,
-            self.day,
-            self.hour,
-            self.minute,
-            self.second,
-            self.zone,
-        );
-        self.summed(ms, self.zone)
+        self.count_ms()
     }
 
     // ---- fields from milliseconds: the Rust's compute_ymd and compute_hms
@@ -299,17 +288,12 @@ impl Moment {
             return self;
         }
         if !self.counted {
-            return self.on_date(YEAR_2000, 1, 1);
+            return self.on_date(UNKNOWN_DATE);
         }
-        let ms = self.ms;
-        if ms < ZERO {
+        if self.ms < ZERO || LAST < self.ms {
             return Moment::failure();
         }
-        if ms > LAST {
-            return Moment::failure();
-        }
-        let c = calendar::civil(ms);
-        self.on_date(c.year, c.month, c.day)
+        self.on_date(calendar::civil(self.ms))
     }
 
     // The time of day t milliseconds after midnight.
@@ -360,7 +344,7 @@ impl Moment {
         ensures { Filled self result (rule.past_end (held self)) }
     {
         let length = calendar::month_length(self.year, self.month);
-        self.over = days_past(self.day, length);
+        self.over = self.day.saturating_sub(length);
         self
     }
 
@@ -381,11 +365,11 @@ impl Moment {
     }
 
     // The clock, which is UTC.
-    pub fn now(mut self, clock: u64) -> Moment
-        requires { Sane (held self) × (clock ≤ 253402300799999) }
-        ensures { Filled self result (reading.now clock (held self)) }
+    pub fn now(mut self, clock: Clock) -> Moment
+        requires { Sane (held self) }
+        ensures { Filled self result (reading.now clock.ms (held self)) }
     {
-        self.ms = UNIX_EPOCH + clock;
+        self.ms = UNIX_EPOCH + clock.ms;
         self.counted = true;
         self.known_utc()
     }

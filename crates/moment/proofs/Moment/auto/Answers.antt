@@ -9,14 +9,14 @@ use Rattle.moment.specs.Held.{held}
 use Rattle.moment.proofs.Chains.{same, filled_as}
 use Rattle.moment.proofs.Modifiers.{auto_known, auto_day, auto_out, auto_in}
 use Rattle.moment.proofs.Moment.auto.Goals as goal
+use Rattle.moment.proofs.Moment.auto.Goals.{then-not-self-via-then-not-self, then-not-self-via-else-not-self+then-self}
 
 pub returns-then-not-self : goal.returns-then-not-self
 returns-then-not-self c = let p = held c.args.self in
-    filled_as (sym (auto_known p (not-true p.raw c.if-not-self.true))) c.not_raw.ensures
-
-pub returns-then-self : goal.returns-then-self
-returns-then-self c = let p = held c.args.self in
-    filled_as (sym (auto_day p (not-false p.raw c.if-not-self.false) c.if-self.true)) c.not_raw-then-self.ensures
+    elim c.then-not-self.branch [
+      | then-not-self-via-then-not-self w ↦ filled_as (sym (auto_known p (not-true p.raw w.if-not-self.true))) c.not_raw.ensures
+      | then-not-self-via-else-not-self+then-self w ↦ filled_as (sym (auto_day p (not-false p.raw w.if-not-self.false) w.if-self.true)) c.not_raw.ensures
+    ]
 
 pub returns-then-not-is_auto : goal.returns-then-not-is_auto
 returns-then-not-is_auto c = let p = held c.args.self in

@@ -10,4 +10,4 @@ use Rattle.moment.proofs.Moment.past_end.Goals as goal
 pub returns : goal.returns
 unfolding past_end
 returns c = let p = held c.args.self in
-    filled _ (end_kept p) c.requires (ap (λ (k : ℕ). set_over p k) (c.days_past.ensures ∙ ap (λ (l : ℕ). p.day - l) c.month_length-length.ensures.0))
+    filled _ (end_kept p) c.requires (ap (λ (k : ℕ). set_over p k) (c.saturating_sub.ensures ∙ ap (λ (l : ℕ). p.day - l) c.month_length-length.ensures.0))
