@@ -7,8 +7,8 @@
 
 ghost use Rattle.std.specs.Prelude.{◌≡◌, ◌<◌, ◌≤◌, IfOk, decimal, length};
 ghost use Rattle.std.specs.Io.KnownBytes.{ReadConsumes, WriteAppends};
+ghost use Rattle.rules.specs.Program.{hex};
 ghost use Rattle.streams.specs.Known.{Writes};
-ghost use Rattle.streams.specs.Digits.{hex_digit, hex_digits};
 
 use itoa::Buffer;
 use std::io::{Read, Write};
@@ -65,27 +65,9 @@ pub fn print_decimal<W: Write>(out: &mut W, n: u64) -> Result<(), Unwritten>
 // The last `width` of a number's hexadecimal digits, small letters, with zeros before them where it has fewer.
 pub fn print_hex<W: Write>(out: &mut W, n: u64, width: usize) -> Result<(), Unwritten>
     requires { width ≤ 16 }
-    ensures { Writes (W.contents out.old) (W.contents out.new) (hex_digits width n) result }
+    ensures { Writes (W.contents out.old) (W.contents out.new) (hex width n) result }
 {
     let mut text = [0u8; 16];
-    put_hex(&mut text[..width], n);
+    digits::put_hex_digits(&mut text, 0, width, n);
     write_all(out, &text[..width])
-}
-
-// Lays as many of its digits, the last ones, as the text has room for.
-fn put_hex(text: &mut [u8], n: u64)
-    ensures { text.new ≡ hex_digits (length text.old) n }
-{
-    if let Some((last, before)) = text.split_last_mut() {
-        *last = hex_digit(n % 16);
-        put_hex(before, n / 16);
-    }
-}
-
-// A hexadecimal digit's byte.
-fn hex_digit(d: u64) -> u8
-    requires { d < 16 }
-    ensures { result ≡ hex_digit d }
-{
-    if d < 10 { 48 + d as u8 } else { 87 + d as u8 }
 }
