@@ -22,10 +22,8 @@ fn main(rt: HostRuntime) {
 }
 
 fn row(stdout: &mut Stdout, line: &[u8]) {
-    let mut fields = line.splitn(2, |b| *b == b'\t');
-    let kind = fields.next().and_then(|kind| kind.first());
-    if let Some(value) = fields.next() {
-        match kind {
+    if let (kind, Some(value)) = text::cut(line, b'\t') {
+        match kind.first() {
             Some(b'd') => decimal_row(stdout, value),
             Some(b't') => three(stdout, float_of(value)),
             Some(b'n') => nine(stdout, float_of(value)),
