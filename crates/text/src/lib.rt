@@ -4,7 +4,7 @@
 // is Some((2024, b"-02-29")), and byte(b"-02-29", b'-') is Some(b"02-29"). Where another form stands, the answer is None.
 #![tactic(auto)]
 
-ghost use Rattle.std.specs.Prelude.{◌≡◌, ◌==◌, ℕ, Bool, not, ◌≤◌, leb, position, IfSome};
+ghost use Rattle.std.specs.Prelude.{◌≡◌, ◌==◌, ℕ, Bool, not, ◌≤◌, ◌<◌, leb, length, position, IfSome};
 ghost use Rattle.rules.specs.Basics as rule;
 ghost use Rattle.rules.specs.Reading.{space};
 ghost use Rattle.rules.specs.Modifiers.{wide_space};
@@ -81,7 +81,8 @@ impl Class for Word {
 
 // What follows the byte b, where it stands there.
 pub fn byte(s: &[u8], b: u8) -> Option<&[u8]>
-    ensures { rule.read_some (λ r. r.now) result ≡ after_byte b s.now }
+    ensures value { rule.read_some (λ r. r.now) result ≡ after_byte b s.now }
+    ensures shorter { IfSome result (λ r. length r.now < length s.now) }
 {
     let (x, rest) = s.split_first()?;
     if *x == b { Some(rest) } else { None }
@@ -92,6 +93,7 @@ pub fn digits<const N: usize>(s: &[u8], lo: u32, hi: u32) -> Option<(u32, &[u8])
     requires { N ≤ 9 }
     ensures value { rule.read_some (λ r. (r.0, r.1.now)) result ≡ rule.digits N lo hi s.now }
     ensures limits { IfSome result (λ r. (lo ≤ r.0) × (r.0 ≤ hi)) }
+    ensures shorter { IfSome result (λ r. length r.1.now ≤ length s.now) }
 {
     let mut v: u32 = 0;
     let mut rest = s;

@@ -31,6 +31,7 @@ loop-preserved g c =
     record {
       left = c.loop.invariant.left ∙ digit_on _ _ _ (omega arith) _ _ c.in_ok-b.ensures.cases.0 _ (omega arith) d;
       small = more _ _ _ c.loop.invariant.small d;
+      shorter = omega (arith, c.in_ok-b.ensures.cases);
     }
 
 pub returns-clause-value : goal.returns-clause-value
