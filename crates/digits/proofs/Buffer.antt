@@ -46,9 +46,6 @@ laid_as e l = rw e at l
 pub room_as : {a xs ys : List ℕ} {at : ℕ} → xs ≡ ys → Room a at xs → Room a at ys
 room_as e h = rw e at h
 
--- one byte, and two
-pub lay_one : (l : List ℕ) (i a : ℕ) → Laid l i (a ∷ []) (set l i a) (i + 1)
-lay_one l i a = record { place = refl; bytes = refl }
-
+-- two bytes
 pub lay_two : (l : List ℕ) (i a b : ℕ) → Laid l i (a ∷ b ∷ []) (set (set l i a) (i + 1) b) (i + 2)
 lay_two l i a b = record { place = refl; bytes = rw (add-one i) }
