@@ -3,9 +3,9 @@ use mathlib.Core.Path.{◌≡◌, refl, sym, ◌∙◌, ap}
 use Rattle.std.specs.Prelude.{if◌then◌else◌}
 use mathlib.Core.Bool.{Bool, true, false}
 use mathlib.Core.List.{◌++◌}
-use Prim.Native.Nat.{ℕ, ◌+◌, ◌-◌, ◌*◌, ◌/◌, ◌≤◌, ◌<◌}
+use Prim.Native.Nat.{ℕ, ◌+◌, ◌-◌, ◌*◌, ◌/◌, ◌≤◌}
 use native.Mathlib.Omega.{arith}
-use borrow.Author.Tests.{leb-true, leb-false, le-leb, lt-leb}
+use borrow.Author.Tests.{leb-true, leb-false, le-leb}
 use lib.Dec.{leb}
 use Rattle.rules.specs.Basics.{ascii}
 use Rattle.std.specs.Int.{abs_diff}
@@ -30,10 +30,6 @@ toward a b = go (leb b a) refl
 pub span_plus : (a b : ℕ) → b ≤ a → span a b ≡ record { plus = true; months = months_of true a b; rest = rest_of true a b }
 unfolding span
 span_plus a b h = rw (le-leb b a h)
-
-pub span_minus : (a b : ℕ) → a < b → span a b ≡ record { plus = false; months = months_of false a b; rest = rest_of false a b }
-unfolding span
-span_minus a b h = rw (lt-leb b a h)
 
 -- ---- the text
 
