@@ -1,6 +1,6 @@
 -- A loop that lays a number from its last place down to its first. Assumes nothing.
 use Prim.Native.Nat.{ℕ, zero, suc, ◌+◌, ◌-◌, ◌/◌, ◌%◌, ◌^◌, ◌≤◌, ◌<◌}
-use mathlib.Core.Path.{◌≡◌, refl, sym, ap, ◌∙◌}
+use mathlib.Core.Path.{◌≡◌, sym, ap, ◌∙◌}
 use mathlib.Core.List.{List}
 use native.Mathlib.Nat.{pow-zero, div-one, mod-eq_of_lt}
 use native.Mathlib.Omega.{arith}
@@ -15,9 +15,6 @@ pub record Down (f : ℕ → ℕ) (b : ℕ) (old : List ℕ) (at n v : ℕ) (new
   pub few : left ≤ n
   pub same : length new ≡ length old
   pub bytes : sets new at (column f b left rest) ≡ sets old at (column f b n v)
-
-pub down_start : (f : ℕ → ℕ) (b : ℕ) (old : List ℕ) (at n v : ℕ) → Down f b old at n v old n v
-down_start f b old at n v = record { few = omega arith; same = refl; bytes = refl }
 
 lay_last : (f : ℕ → ℕ) (b : ℕ) (l : List ℕ) (at left rest : ℕ) → 0 < left → sets (set l (at + (left - 1)) (f (rest % b))) at (column f b (left - 1) (rest / b)) ≡ sets l at (column f b left rest)
 lay_last f b l at zero rest h = absurd (omega arith)

@@ -29,6 +29,16 @@ pub fn put_byte(buf: &mut [u8], at: usize, b: u8) -> usize
     at + 1
 }
 
+// Some bytes.
+pub fn put_bytes(buf: &mut [u8], at: usize, s: &[u8]) -> usize
+    requires { Room buf.old at s.now }
+    ensures { Laid buf.old at s.now buf.new result }
+{
+    let after = at + s.len();
+    buf[at..after].copy_from_slice(s);
+    after
+}
+
 // A number in N digits, with zeros before it where it has fewer.
 pub fn put_digits<const N: usize>(buf: &mut [u8], at: usize, v: u32) -> usize
     requires some_digits { 0 < N }

@@ -4,7 +4,7 @@ use Rattle.std.specs.Prelude.{if◌then◌else◌}
 use mathlib.Core.List.{[]}
 use mathlib.Core.Path.{◌≡◌, refl, sym, ap, ◌∙◌}
 use Prim.Native.Nat.{ℕ, ◌+◌, ◌-◌, ◌*◌, ◌/◌, ◌%◌, ◌≤◌, ◌<◌}
-use borrow.Author.Tests.{leb-true, not-true, le-leb, lt-leb, lt-ltb, le-ltb}
+use borrow.Author.Tests.{leb-true, not-true, lt-ltb, le-ltb}
 use lib.Dec.{leb, ltb}
 use lib.IntN.{ℤ, pos, neg_ℤ, ◌*ℤ◌}
 use lib.Ieee.{Float}
@@ -35,10 +35,6 @@ pub auto_day : (p : Moment) → p.raw ≡ true → p.counted ≡ true → auto p
 unfolding auto
 auto_day p h k = rw (h, k)
 
-pub auto_out : (p : Moment) → p.raw ≡ true → p.counted ≡ false → is_auto p.second ≡ false → auto p ≡ p
-unfolding auto
-auto_out p h k i = rw (h, k, i)
-
 pub auto_in : (p : Moment) → p.raw ≡ true → p.counted ≡ false → is_auto p.second ≡ true → auto p ≡ at_ms p (from_epoch p.second)
 unfolding auto
 auto_in p h k i = rw (h, k, i)
@@ -54,14 +50,6 @@ pub julian_day : (p : Moment) → p.counted ≡ true → p.raw ≡ true → juli
 julian_day p h k = rw (h, k)
 
 -- ---- `unixepoch`
-pub unix_known : (p : Moment) → p.raw ≡ false → unix p ≡ refuse Refusal.Null
-unfolding unix
-unix_known p h = rw h
-
-pub unix_out : (p : Moment) → p.raw ≡ true → is_unix (from_epoch p.second) ≡ false → unix p ≡ refuse Refusal.Null
-unfolding unix
-unix_out p h k = rw (h, k)
-
 pub unix_in : (p : Moment) → p.raw ≡ true → is_unix (from_epoch p.second) ≡ true → unix p ≡ got (at_ms p (from_epoch p.second))
 unfolding unix
 unix_in p h k = rw (h, k)
@@ -95,21 +83,6 @@ utc_is z p h =
     ap (λ (t : ℕ). set_utc (clear (set_ms q t))) (sym (move_product q.ms (neg_ℤ z) 1000)) ∙ sym (branch_false p.utc p (set_utc (clear (moved q (neg_ℤ z) 1000))) h)
 
 -- ---- `weekday`: days are counted from the start of -4713-11-23
-abbrev sunday : ℕ
-sunday = 9223372036725175808
-
-pub on_early : (n t : ℕ) → t < sunday → n + (sunday - t) / day_length % 7 ≡ days_on n t
-unfolding days_on
-on_early n t h = rw (lt-leb sunday t h)
-
-pub on_next : (n t : ℕ) → sunday ≤ t → n < (t - sunday) / day_length % 7 → n + 7 - (t - sunday) / day_length % 7 ≡ days_on n t
-unfolding days_on
-on_next n t h k = rw (le-leb sunday t h, lt-ltb n ((t - sunday) / day_length % 7) k)
-
-pub on_this : (n t : ℕ) → sunday ≤ t → (t - sunday) / day_length % 7 ≤ n → n - (t - sunday) / day_length % 7 ≡ days_on n t
-unfolding days_on
-on_this n t h k = rw (le-leb sunday t h, le-ltb n ((t - sunday) / day_length % 7) k)
-
 pub weekday_is : (n : ℕ) (p : Moment) → let q = count_ms (set_counted (fill p) false) in step (pos (days_on n q.ms * day_length)) q ≡ to_weekday n p
 unfolding to_weekday
 weekday_is n p = let q = count_ms (set_counted (fill p) false) in ap (λ (t : ℕ). clear (set_ms q t)) (sym (move_times q.ms false (days_on n q.ms) day_length))
@@ -128,12 +101,6 @@ counted_or_failed p = count_cases (λ (q : Moment). q.failed ≡ false → q.cou
 -- no sum failed, and the milliseconds are in range
 abbrev pub passes : Moment → Bool
 passes q = not q.failed && in_range q.ms
-
-pub passes_failed : (q : Moment) → q.failed ≡ true → false ≡ passes q
-passes_failed q h = rw h
-
-pub passes_range : (q : Moment) (b : Bool) → q.failed ≡ false → in_range q.ms ≡ b → b ≡ passes q
-passes_range q b h k = rw (h, k)
 
 pub range_out : (p : Moment) → passes (count_ms p) ≡ false → ranged p ≡ refuse Refusal.Null
 unfolding ranged

@@ -17,22 +17,10 @@ use Rattle.calendar.specs.Ranges.{MonthDay, Countable}
 use Rattle.moment.specs.Ranges.{sum_takes, TimeRead, Sane}
 use Rattle.moment.specs.Sums.{date_meant, time_meant, civil_instant, summed_to}
 use Rattle.moment.proofs.Branches.{branch_false, either, by_test}
-use Rattle.moment.proofs.Bounds.{no_seconds}
+use Rattle.moment.proofs.Bounds.{midnight_in}
 use Rattle.moment.proofs.Steps.{taken, summed, unsummed}
 
 -- ---- what is meant
-pub date_known : (p : Moment) → p.dated ≡ true → record { year = p.year; month = p.month; day = p.day } ≡ date_meant p
-date_known p h = rw h
-
-pub date_not : (p : Moment) → p.dated ≡ false → record { year = year 2000; month = 1; day = 1 } ≡ date_meant p
-date_not p h = rw h
-
-pub time_known : (p : Moment) → p.timed ≡ true → record { hour = p.hour; minute = p.minute; second = p.second; zone = p.zone; utc = false } ≡ time_meant p
-time_known p h = rw h
-
-pub time_not : (p : Moment) → p.timed ≡ false → record { hour = 0; minute = 0; second = number 0; zone = no_zone; utc = false } ≡ time_meant p
-time_not p h = rw h
-
 -- its ranges, where it is summed
 date_in : (p : Moment) → Sane p → MonthDay (date_meant p).month (date_meant p).day
 date_in p s = either (λ (d : Ymd). MonthDay d.month d.day) p.dated _ _ s.date (omega arith)
@@ -40,7 +28,7 @@ date_in p s = either (λ (d : Ymd). MonthDay d.month d.day) p.dated _ _ s.date (
 time_in : (p : Moment) → Sane p → TimeRead (time_meant p)
 time_in p s =
     by_test TimeRead p.timed _ _ (λ h. record { hours = s.time.hours; minutes = s.time.minutes; seconds = λ _. s.time.seconds h; zone_low = s.time.zone_low; zone_high = s.time.zone_high })
-    (λ _. record { hours = omega arith; minutes = omega arith; seconds = λ _. no_seconds; zone_low = omega arith; zone_high = omega arith })
+    (λ _. midnight_in)
 
 pub date_asked : (p : Moment) (d : Ymd) → d ≡ date_meant p → Sane p → sum_takes d.year p.raw ≡ true → Countable d.year d.month d.day
 date_asked p d e s h = taken _ _ _ p.raw (subst (λ (x : Ymd). MonthDay x.month x.day) (sym e) (date_in p s)) h
@@ -107,6 +95,3 @@ count_fails p d e c h = sym (count_meant p c ∙ ap (sum_at p) (sym e) ∙ unsum
 -- ---- a zone is taken off at once
 pub settled_not : (p : Moment) → p.zone ≡ no_zone → p ≡ settled p
 settled_not p z = rw (eq-eqb p.zone no_zone z)
-
-pub settled_counts : (p : Moment) → (p.zone ≡ no_zone → ⊥) → count_ms p ≡ settled p
-settled_counts p z = rw (ne_eqb p.zone no_zone z)

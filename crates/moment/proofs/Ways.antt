@@ -59,10 +59,6 @@ pub move_wraps : (a : ℕ) (z : ℤ) → nat_abs z ≤ a → a + nat_abs z < 2 ^
 move_wraps a (pos n) l h = omega arith
 move_wraps a (negsuc n) l h = omega arith
 
-pub move_most : (a : ℕ) (z : ℤ) → move a z 1 ≤ a + nat_abs z
-move_most a (pos n) = omega arith
-move_most a (negsuc n) = omega arith
-
 pub back_minus : (n : ℕ) → n < 2 ^ 63 → to_z w64 (of_z w64 (pos 0 -ℤ to_z w64 n)) ≡ signed true n
 back_minus n h = rw (back_pos n h, negated n) (back (signed true n) (rw (abs_signed true n) h))
 

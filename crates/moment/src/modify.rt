@@ -11,10 +11,11 @@ ghost use Rattle.rules.specs.Modifiers as modifiers;
 ghost use Rattle.rules.specs.Modifiers.{nearest_ms, fraction_ms, days_on};
 ghost use Rattle.real.specs.StepMost.{step_most};
 ghost use Rattle.moment.specs.Held.{held};
-ghost use Rattle.moment.specs.Ranges.{ReadYear, Sane, Movable, Filled, Moved, Answered, Ranged, Lands};
+ghost use Rattle.moment.specs.Ranges.{ReadYear, Movable, Filled, Moved, Answered, Ranged, Lands};
 ghost use Rattle.moment.specs.Steps.{length_on, months_on, time_on, date_on, first_of_month, first_of_year};
 
-use crate::{LAST, Moment, NO_ZONE, Offset, ZERO};
+use crate::fields::{LAST, NO_ZONE, ZERO};
+use crate::{Moment, Offset};
 use rules::Refusal;
 
 // The milliseconds of a day.
@@ -25,6 +26,7 @@ const SUNDAY: u64 = 9223372036725175808;
 
 // The days on to the next day n of the week (0 is Sunday), none if t is one. Before SUNDAY the Rust's quotient and remainder, cut toward
 // zero, are not the day of the week; they are kept.
+#[tactic(auto, unfolding(rules::specs::Modifiers::days_on))]
 fn days_on(n: u64, t: u64) -> u64
     requires { n ≤ 6 }
     ensures { (result ≡ days_on n t) × (result ≤ 12) }
@@ -40,7 +42,6 @@ impl Moment {
     // ---- setters
 
     fn known_local(mut self) -> Moment
-        requires { Sane (held self) }
         ensures { Filled self result (rule.set_local (held self)) }
     {
         self.utc = false;
@@ -49,7 +50,6 @@ impl Moment {
     }
 
     fn not_raw(mut self) -> Moment
-        requires { Sane (held self) }
         ensures { Filled self result (rule.set_raw (held self) false) }
     {
         self.raw = false;
@@ -57,7 +57,6 @@ impl Moment {
     }
 
     fn not_over(mut self) -> Moment
-        requires { Sane (held self) }
         ensures { Filled self result (rule.set_over (held self) 0) }
     {
         self.over = 0;
@@ -65,14 +64,13 @@ impl Moment {
     }
 
     fn uncounted(mut self) -> Moment
-        requires { Sane (held self) }
         ensures { Filled self result (rule.set_counted (held self) false) }
     {
         self.counted = false;
         self
     }
 
-    // The milliseconds moved, and the fields then no longer stand.
+    // The milliseconds moved, and the fields then no longer stand. The sum fits: `Movable` says so.
     fn moved(mut self, by: i64) -> Moment
         requires { Movable (held self) × (unsigned_abs by ≤ step_most) }
         ensures { Moved self result (rule.clear (rule.moved (held self) by 1)) }
@@ -85,7 +83,7 @@ impl Moment {
 
     // The milliseconds are those of r, and nothing else stands.
     fn at_ms(mut self, r: f64) -> Moment
-        requires { Sane (held self) × (nearest_ms r ≤ 464269060800000) }
+        requires { nearest_ms r ≤ 464269060800000 }
         ensures { Filled self result (modifiers.at_ms (held self) r) }
     {
         self.ms = ZERO + real::nearest_ms(r);
@@ -95,8 +93,8 @@ impl Moment {
     }
 
     // "`auto` takes -210866760000 to 253402300799 if the number is no Julian day." Out of it the number stays as it is.
+    #[tactic(auto, using(real::proofs::Epoch::auto_ms), unfolding(rules::specs::Modifiers::auto))]
     pub fn auto(self) -> Moment
-        requires { Sane (held self) }
         ensures { Filled self result (modifiers.auto (held self)) }
     {
         if !self.raw || self.counted {
@@ -110,7 +108,6 @@ impl Moment {
 
     // A number that is a Julian day.
     pub fn julian(self) -> Result<Moment, Refusal>
-        requires { Sane (held self) }
         ensures { Answered self result (modifiers.julian (held self)) }
     {
         if !self.counted || !self.raw {
@@ -120,8 +117,8 @@ impl Moment {
     }
 
     // "`unixepoch` needs a raw number; r must have 0 <= r < 464269060800000, so NaN is refused."
+    #[tactic(auto, using(real::proofs::Epoch::unix_ms), unfolding(rules::specs::Modifiers::unix))]
     pub fn unix(self) -> Result<Moment, Refusal>
-        requires { Sane (held self) }
         ensures { Answered self result (modifiers.unix (held self)) }
     {
         if !self.raw {
@@ -138,7 +135,6 @@ impl Moment {
 
     // The day past its month's end stands as it ran over.
     pub fn ceiling(self) -> Moment
-        requires { Sane (held self) }
         ensures { Filled self result (modifiers.ceiling (held self)) }
     {
         self.count_ms().clear().not_over()
@@ -190,7 +186,6 @@ impl Moment {
     }
 
     pub fn start_of_day(self) -> Moment
-        requires { Sane (held self) }
         ensures { Filled self result (modifiers.day_start (held self)) }
     {
         let mut p = self.fill_date();
@@ -206,7 +201,6 @@ impl Moment {
     }
 
     pub fn start_of_month(self) -> Moment
-        requires { Sane (held self) }
         ensures { Filled self result (first_of_month (modifiers.day_start (held self))) }
     {
         let mut p = self.start_of_day();
@@ -215,7 +209,6 @@ impl Moment {
     }
 
     pub fn start_of_year(self) -> Moment
-        requires { Sane (held self) }
         ensures { Filled self result (first_of_year (modifiers.day_start (held self))) }
     {
         let mut p = self.start_of_day();
@@ -243,9 +236,10 @@ impl Moment {
 
     // "A month shift keeps the day, which may then run over." "months below one are normalised by signed division": no count of months from
     // the year held as 0 is below one.
+    #[tactic(auto, using(crate::proofs::Ways::move_wraps), unfolding(rules::specs::Moments::shift))]
     pub fn shift(mut self, months: i64) -> Moment
-        requires { Sane (held self) × ReadYear self.year × (unsigned_abs months ≤ 176545) }
-        ensures { (held result ≡ rule.shift (held self) months 1) × Sane (held result) }
+        requires { ReadYear self.year × (unsigned_abs months ≤ 176545) }
+        ensures { held result ≡ rule.shift (held self) months 1 }
     {
         let month = (self.year * 12 + (self.month - 1)) as u64;
         let shifted = month.wrapping_add_signed(months);
@@ -286,7 +280,6 @@ impl Moment {
 
     // "final range": a failed sum, or a time outside 0 to the last millisecond, gives 1.
     pub fn ranged(self) -> Result<Moment, Refusal>
-        requires { Sane (held self) }
         ensures { Answered self result (functions.ranged (held self)) × Lands Ranged result }
     {
         let p = self.count_ms();
@@ -298,7 +291,6 @@ impl Moment {
 
     // "With no modifier, date, time and datetime renew a day above 28 from the milliseconds."
     pub fn renewed(mut self) -> Moment
-        requires { Sane (held self) }
         ensures { Filled self result (functions.renewed [] (held self)) }
     {
         if self.day <= 28 {

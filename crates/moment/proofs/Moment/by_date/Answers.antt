@@ -14,15 +14,15 @@ use Rattle.moment.proofs.Moment.by_date.Goals as goal
 pub shift-requires : goal.shift-requires
 shift-requires c = let u = c.uncounted.ensures in
     let year = subst (λ (p : Moment). ReadYear p.year) (sym (u.is ∙ ap (λ (q : Moment). set_counted q false) c.fill.ensures.is)) (fill_year most_before (held c.args.self) c.requires.0) in
-    rw (to_z-of_z w64 _ c.ranges.months) (u.sane, year, c.requires.1)
+    rw (to_z-of_z w64 _ c.ranges.months) (year, c.requires.1)
 
 pub moved-requires : goal.moved-requires
-moved-requires c = let e = shifted_uncounted _ c.fill.ensures c.uncounted.ensures c.shift.ensures.0 c.past_end.ensures in
-    (fresh_movable c.past_end.ensures.sane e c.count_ms.ensures, rw (to_z-of_z w64 _ c.ranges.ms) c.requires.2)
+moved-requires c = let e = shifted_uncounted _ c.fill.ensures c.uncounted.ensures c.shift.ensures c.past_end.ensures in
+    (fresh_movable e c.count_ms.ensures, rw (to_z-of_z w64 _ c.ranges.ms) c.requires.2)
 
 pub returns : goal.returns
 returns c = let z = c.args.months in
-    let k = rw (to_z-of_z w64 _ c.ranges.months) at c.shift.ensures.0 in
+    let k = rw (to_z-of_z w64 _ c.ranges.months) at c.shift.ensures in
     let e = shifted_uncounted z c.fill.ensures c.uncounted.ensures k c.past_end.ensures in
     let g = step c.args.ms in
-    moved_as (ap (λ (q : Moment). g (count_ms q)) (shifted z c.fill.ensures c.uncounted.ensures k c.past_end.ensures)) (fresh_move c.past_end.ensures.sane e c.count_ms.ensures c.args.self g (rw (to_z-of_z w64 _ c.ranges.ms) at c.moved.ensures))
+    moved_as (ap (λ (q : Moment). g (count_ms q)) (shifted z c.fill.ensures c.uncounted.ensures k c.past_end.ensures)) (fresh_move e c.count_ms.ensures c.args.self g (rw (to_z-of_z w64 _ c.ranges.ms) at c.moved.ensures))

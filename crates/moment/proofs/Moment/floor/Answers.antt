@@ -15,9 +15,9 @@ use Rattle.moment.proofs.Moment.floor.Goals as goal
 pub moved-requires : goal.moved-requires
 moved-requires c = let q = c.count_ms-p.ensures in
     let n = c.count_ms-p.result.over * day_length in
-    (q.after most_before c.requires, rw (back_minus n (omega (arith, q.sane.overs))) (omega (arith, q.sane.overs, abs_signed true n)))
+    (q.after most_before c.requires, rw (back_minus n (omega (arith, c.count_ms-p.result.over_in))) (omega (arith, c.count_ms-p.result.over_in, abs_signed true n)))
 
 pub returns : goal.returns
 returns c = let q = c.count_ms-p.ensures in
     let n = c.count_ms-p.result.over * day_length in
-    moved_as (floor_is (held c.args.self)) (move_fill (λ p. set_over p 0) (then_move (λ p. step (neg_ℤ (pos (p.over * day_length))) p) q (rw (back_minus n (omega (arith, q.sane.overs))) at c.moved.ensures)) c.not_over.ensures)
+    moved_as (floor_is (held c.args.self)) (move_fill (λ p. set_over p 0) (then_move (λ p. step (neg_ℤ (pos (p.over * day_length))) p) q (rw (back_minus n (omega (arith, c.count_ms-p.result.over_in))) at c.moved.ensures)) c.not_over.ensures)

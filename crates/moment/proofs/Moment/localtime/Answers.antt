@@ -10,7 +10,7 @@ use Rattle.moment.proofs.Ways.{abs_product, back_seconds}
 use Rattle.moment.proofs.Moment.localtime.Goals as goal
 
 pub returns-then-self : goal.returns-then-self
-returns-then-self c = no_move (filled_as (sym (local_stays _ _ c.if-self.true)) (same c.args.self c.requires.sane))
+returns-then-self c = no_move (filled_as (sym (local_stays _ _ c.if-self.true)) (same c.args.self))
 
 pub moved-requires : goal.moved-requires
 moved-requires c = let o = c.args.offset in
