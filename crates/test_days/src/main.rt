@@ -8,7 +8,7 @@
 ghost use Rattle.std.specs.Prelude.{◌≤◌, ◌<◌};
 ghost use Rattle.calendar.specs.Ranges.{InRange};
 
-use std::io::Stdout;
+use std::io::Write;
 
 // The millisecond 0 as held: noon of -4713-11-24, here the day 0.
 const NOON: u64 = 9223372036854775808;
@@ -20,7 +20,7 @@ const DAY_ZERO: u32 = 327;
 const LAST: u32 = 5373484;
 
 // The years 0 and -4800 as held.
-const YEAR_0: u32 = 40000;
+const YEAR_0: i64 = 40000;
 
 const YEAR_LOW: u32 = 35200;
 
@@ -108,32 +108,14 @@ fn walked(first: u32) -> (Digests, u32)
     (digests, next)
 }
 
-// A year as people write it, with a minus before 0.
-fn print_year(stdout: &mut Stdout, year: u32) {
-    if year < YEAR_0 {
-        streams::write_all(stdout, b"-");
-        streams::print_decimal(stdout, u64::from(YEAR_0 - year));
-    } else {
-        streams::print_decimal(stdout, u64::from(year - YEAR_0));
-    }
-}
-
-// A number after a space.
-fn print_next(stdout: &mut Stdout, n: u64) {
-    streams::write_all(stdout, b" ");
-    streams::print_decimal(stdout, n);
-}
-
 fn main(rt: HostRuntime) {
     let mut stdout = rt.stdout();
     let mut day = 0;
     while day <= LAST {
         let (digests, next) = walked(day);
-        print_year(&mut stdout, year_of(day));
-        print_next(&mut stdout, u64::from(next - day));
-        print_next(&mut stdout, digests.a);
-        print_next(&mut stdout, digests.b);
-        streams::write_all(&mut stdout, b"\n");
+        let year = i64::from(year_of(day)) - YEAR_0;
+        // What can't be written is left out: the stored answers show that.
+        let _ = writeln!(stdout, "{year} {} {} {}", next - day, digests.a, digests.b);
         day = next;
     }
 }
