@@ -6,4 +6,4 @@ use Rattle.test_days.proofs.day_back.Goals as goal
 pub overflow_sub-result : goal.overflow_sub-result
 overflow_sub-result c = let t = c.args.ms in
     let h = c.requires in
-    rw (c.days_to.ensures.0, c.civil-date.ensures.0, (date_of_lem t h.to).counted) (omega (arith, day_low t h.from, day_zero_lem))
+    rw (c.days_to.ensures.0, c.civil.ensures.0, (date_of_lem t h.to).counted) (omega (arith, day_low t h.from, day_zero_lem))

@@ -8,8 +8,8 @@ use Rattle.writing.proofs.put_julian_day.Goals as goal
 pub returns-then-ms-lt-EARLY : goal.returns-then-ms-lt-EARLY
 returns-then-ms-lt-EARLY c = rw (julian_early _ c.if-ms-lt-EARLY.true) (refl, refl)
 
-pub put_julian-requires : goal.put_julian-requires
-put_julian-requires c = record { not_before = c.if-ms-lt-EARLY.false; not_after = c.requires.in_range.to; room = room_as (ap text_of (julian_late _ c.if-ms-lt-EARLY.false)) c.requires.room }
+pub put_julian-requires-clause-room : goal.put_julian-requires-clause-room
+put_julian-requires-clause-room c = room_as (ap text_of (julian_late _ c.if-ms-lt-EARLY.false)) c.requires.room
 
 pub returns : goal.returns
 returns c = rw (julian_late _ c.if-ms-lt-EARLY.false) c.put_julian.ensures
