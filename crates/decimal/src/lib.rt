@@ -165,9 +165,9 @@ fn nearest_to(minus: bool, d: u64, up: u64, down: u64) -> Result<f64, Refusal>
         return Err(Refusal::Decimal);
     }
     let x = if down <= up {
-        nearest::above(d, up - down)
+        nearest::above(d, (up - down) as u32)
     } else {
-        nearest::below(d, down - up)
+        nearest::below(d, (down - up) as u32)
     };
     Ok(with_sign(minus, x))
 }

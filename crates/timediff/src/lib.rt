@@ -16,9 +16,9 @@ ghost use Rattle.rules.specs.Calendar.{day_length, midnight};
 ghost use Rattle.rules.specs.Writing.{wide, month_of};
 ghost use Rattle.calendar.specs.Ranges.{Countable, InRange};
 ghost use Rattle.digits.specs.Writers.{Room, Laid};
-ghost use Rattle.timediff.specs.Spans.{moved, gap, past, between, shift_of, Toward, Tells, span_text, Writable, sign_byte, months_part, rest_part};
+ghost use Rattle.timediff.specs.Spans.{moved, past, between, shift_of, Toward, Tells, span_text, Writable, sign_byte, months_part, rest_part};
 
-use digits::{put_byte, put_four, put_next, put_number, put_three};
+use digits::{put_byte, put_digits, put_next, put_number};
 use rules::Ymd;
 
 // What timediff writes: the sign, the months and, in milliseconds, the rest, which is less than 31 days.
@@ -44,14 +44,6 @@ fn month_of(date: Ymd) -> u32
     date.year * 12 + (date.month - 1)
 }
 
-// The months from one calendar month forward, or backward, to another.
-fn months_between(plus: bool, from: u32, to: u32) -> u32
-    requires { Toward plus to from }
-    ensures { result ≡ gap plus from to }
-{
-    if plus { to - from } else { from - to }
-}
-
 // A calendar month moved forward, or backward, by n.
 fn moved(plus: bool, month: u32, n: u32) -> u32
     requires { (n ≤ month) × (month ≤ 599999) }
@@ -66,7 +58,12 @@ fn in_month(month: u32, day: u32, time: u32) -> u64
     requires time_bound { time < 86400000 }
     ensures { result ≡ midnight (month / 12) (month % 12 + 1) day + time }
 {
-    calendar::midnight(month / 12, month % 12 + 1, day) + time as u64
+    let date = Ymd {
+        year: month / 12,
+        month: month % 12 + 1,
+        day,
+    };
+    calendar::midnight(date) + u64::from(time)
 }
 
 // Whether an instant lies past A.
@@ -86,7 +83,7 @@ fn back_off(plus: bool, a: u64, b: u64) -> Shift
     let time = calendar::time_of_day(b);
     let from = month_of(date);
     let to = month_of(calendar::civil(a));
-    let mut months = months_between(plus, from, to);
+    let mut months = from.abs_diff(to);
     loop {
         let at = in_month(moved(plus, from, months), date.day, time);
         if !is_past(plus, a, at) {
@@ -101,20 +98,12 @@ pub fn difference(a: u64, b: u64) -> Span
     requires { InRange a × InRange b }
     ensures { Tells a b result }
 {
-    if b <= a {
-        let shift = back_off(true, a, b);
-        Span {
-            plus: true,
-            months: shift.months,
-            rest: a - shift.at,
-        }
-    } else {
-        let shift = back_off(false, a, b);
-        Span {
-            plus: false,
-            months: shift.months,
-            rest: shift.at - a,
-        }
+    let plus = b <= a;
+    let shift = back_off(plus, a, b);
+    Span {
+        plus,
+        months: shift.months,
+        rest: a.abs_diff(shift.at),
     }
 }
 
@@ -132,7 +121,7 @@ fn put_years(buf: &mut [u8], at: usize, years: u32) -> usize
     ensures { Laid buf.old at (wide 4 years) buf.new result }
 {
     if years < 10000 {
-        return put_four(buf, at, years);
+        return put_digits::<4>(buf, at, years);
     }
     put_number(buf, at, 4, years as u64)
 }
@@ -158,7 +147,7 @@ fn put_rest(buf: &mut [u8], at: usize, rest: u32) -> usize
     let before_second = put_next(buf, before_minute, b':', rest / 60000 % 60);
     let point = put_next(buf, before_second, b':', rest / 1000 % 60);
     let thousandths = put_byte(buf, point, b'.');
-    put_three(buf, thousandths, rest % 1000)
+    put_digits::<3>(buf, thousandths, rest % 1000)
 }
 
 // The text of a span. Its rest, less than 31 days, fits 32 bits.
@@ -172,6 +161,7 @@ pub fn put_span(buf: &mut [u8], at: usize, s: Span) -> usize
 }
 
 // How many bytes `put_span` takes: "24 bytes, 25 with a five-digit year".
+#[tactic(auto, using(crate::proofs::Text::span_24, crate::proofs::Text::span_25))]
 pub fn span_length(s: Span) -> usize
     requires { Writable s }
     ensures { (result ≡ length (span_text s)) × (result ≤ 25) }
