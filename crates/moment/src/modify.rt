@@ -9,13 +9,15 @@ ghost use Rattle.rules.specs.Functions as functions;
 ghost use Rattle.rules.specs.Moments as rule;
 ghost use Rattle.rules.specs.Modifiers as modifiers;
 ghost use Rattle.rules.specs.Modifiers.{nearest_ms, fraction_ms, days_on};
+ghost use Rattle.calendar.specs.Ranges.{InRange};
 ghost use Rattle.real.specs.StepMost.{step_most};
 ghost use Rattle.moment.specs.Held.{held};
 ghost use Rattle.moment.specs.Ranges.{ReadYear, Movable, Filled, Moved, Answered, Ranged, Lands};
 ghost use Rattle.moment.specs.Steps.{length_on, months_on, time_on, date_on, first_of_month, first_of_year};
 
-use crate::fields::{LAST, NO_ZONE, ZERO};
+use crate::fields::{NO_ZONE, ZERO};
 use crate::{Moment, Offset};
+use calendar::Instant;
 use rules::Refusal;
 
 // The milliseconds of a day.
@@ -275,7 +277,7 @@ impl Moment {
     pub fn in_range(self) -> bool
         ensures { result ≡ (not self.failed && in_range self.ms) }
     {
-        !self.failed && ZERO <= self.ms && self.ms <= LAST
+        !self.failed && Instant::new(self.ms).is_some()
     }
 
     // "final range": a failed sum, or a time outside 0 to the last millisecond, gives 1.
@@ -287,6 +289,14 @@ impl Moment {
             return Err(Refusal::Null);
         }
         Ok(p)
+    }
+
+    // The instant of a record that passed it.
+    pub fn instant(self) -> Instant
+        requires { InRange self.ms }
+        ensures { result.ms ≡ self.ms }
+    {
+        Instant { ms: self.ms }
     }
 
     // "With no modifier, date, time and datetime renew a day above 28 from the milliseconds."
