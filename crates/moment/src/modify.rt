@@ -9,7 +9,6 @@ ghost use Rattle.rules.specs.Functions as functions;
 ghost use Rattle.rules.specs.Moments as rule;
 ghost use Rattle.rules.specs.Modifiers as modifiers;
 ghost use Rattle.rules.specs.Modifiers.{nearest_ms, fraction_ms, days_on};
-ghost use Rattle.calendar.specs.Ranges.{InRange};
 ghost use Rattle.real.specs.StepMost.{step_most};
 ghost use Rattle.moment.specs.Held.{held};
 ghost use Rattle.moment.specs.Ranges.{ReadYear, Movable, Filled, Moved, Answered, Ranged, Lands};
@@ -289,14 +288,6 @@ impl Moment {
             return Err(Refusal::Null);
         }
         Ok(p)
-    }
-
-    // The instant of a record that passed it.
-    pub fn instant(self) -> Instant
-        requires { InRange self.ms }
-        ensures { result.ms ≡ self.ms }
-    {
-        Instant { ms: self.ms }
     }
 
     // "With no modifier, date, time and datetime renew a day above 28 from the milliseconds."
