@@ -7,8 +7,7 @@
 // Values and answers are stored as crates/values/stdin and stdout. `oracle values` in oracle/ makes both: the answers are the Rust's.
 #![tactic(auto)]
 
-ghost use Rattle.calendar.specs.Ranges.{InRange};
-
+use calendar::Instant;
 use moment::{Clock, Moment};
 use rules::Refusal;
 use std::io::{Stdout, Write};
@@ -28,7 +27,7 @@ fn main(rt: HostRuntime) {
 // A time value's two answers.
 fn row(stdout: &mut Stdout, s: &[u8], clock: Clock) {
     match instant(s, clock) {
-        Ok(p) => answers(stdout, p.ms, p.subsec),
+        Ok(p) => answers(stdout, Instant { ms: p.ms }, p.subsec),
         Err(Refusal::Shape) => rows::say(stdout, b"refused 2\trefused 2"),
         Err(Refusal::Bytes) => rows::say(stdout, b"refused 3\trefused 3"),
         Err(Refusal::Decimal) => rows::say(stdout, b"refused 5\trefused 5"),
@@ -47,14 +46,12 @@ fn instant(s: &[u8], clock: Clock) -> Result<Moment, Refusal> {
     reading::text_value(s, clock)?.ranged()
 }
 
-fn answers(stdout: &mut Stdout, ms: u64, subsec: bool)
-    requires { InRange ms }
-{
-    rows::float(stdout, real::julian_real(ms));
+fn answers(stdout: &mut Stdout, at: Instant, subsec: bool) {
+    rows::float(stdout, real::julian_real(at.ms));
     rows::say(stdout, b"\t");
     if subsec {
-        rows::float(stdout, real::unix_real(ms));
+        rows::float(stdout, real::unix_real(at.ms));
     } else {
-        let _ = write!(stdout, "{}", real::unix_seconds(ms));
+        let _ = write!(stdout, "{}", real::unix_seconds(at.ms));
     }
 }
