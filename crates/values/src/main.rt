@@ -8,6 +8,7 @@
 #![tactic(auto)]
 
 ghost use Rattle.calendar.specs.Ranges.{InRange};
+ghost use Rattle.moment.specs.Ranges.{Lands, Ranged};
 
 use moment::{Clock, Moment};
 use rules::Refusal;
@@ -37,7 +38,9 @@ fn row(stdout: &mut Stdout, s: &[u8], clock: Clock) {
     rows::say(stdout, b"\n");
 }
 
-fn instant(s: &[u8], clock: Clock) -> Result<Moment, Refusal> {
+fn instant(s: &[u8], clock: Clock) -> Result<Moment, Refusal>
+    ensures { Lands Ranged result }
+{
     if 255 < s.len() {
         return Err(Refusal::Shape);
     }
