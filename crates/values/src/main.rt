@@ -8,7 +8,7 @@
 #![tactic(auto)]
 
 use calendar::Instant;
-use moment::{Clock, Moment};
+use moment::Clock;
 use rules::Refusal;
 use std::io::{Stdout, Write};
 
@@ -27,7 +27,7 @@ fn main(rt: HostRuntime) {
 // A time value's two answers.
 fn row(stdout: &mut Stdout, s: &[u8], clock: Clock) {
     match instant(s, clock) {
-        Ok(p) => answers(stdout, Instant { ms: p.ms }, p.subsec),
+        Ok((at, subsec)) => answers(stdout, at, subsec),
         Err(Refusal::Shape) => rows::say(stdout, b"refused 2\trefused 2"),
         Err(Refusal::Bytes) => rows::say(stdout, b"refused 3\trefused 3"),
         Err(Refusal::Decimal) => rows::say(stdout, b"refused 5\trefused 5"),
@@ -36,14 +36,16 @@ fn row(stdout: &mut Stdout, s: &[u8], clock: Clock) {
     rows::say(stdout, b"\n");
 }
 
-fn instant(s: &[u8], clock: Clock) -> Result<Moment, Refusal> {
+// The instant that a time value stands for, and whether it asked for `subsec`.
+fn instant(s: &[u8], clock: Clock) -> Result<(Instant, bool), Refusal> {
     if 255 < s.len() {
         return Err(Refusal::Shape);
     }
     if !text::is_ascii(s) {
         return Err(Refusal::Bytes);
     }
-    reading::text_value(s, clock)?.ranged()
+    let p = reading::text_value(s, clock)?.ranged()?;
+    Ok((Instant { ms: p.ms }, p.subsec))
 }
 
 fn answers(stdout: &mut Stdout, at: Instant, subsec: bool) {
