@@ -1,5 +1,4 @@
--- Laws of the calendar that rules defines, for whoever reckons with dates. (Below and March are what other laws here stand on.)
-pub mod Below
+-- Laws of the calendar that rules defines, for whoever reckons with dates. (March is what other laws here stand on.)
 pub mod Years
 pub mod Counting
 pub mod March

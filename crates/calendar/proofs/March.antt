@@ -1,11 +1,12 @@
 -- The date of a day by quotients, in years that begin on 1 March: what `date_after` computes. Assumes nothing.
-use mathlib.Core.Path.{◌≡◌, sym}
+use mathlib.Core.Path.{◌≡◌, refl, sym}
 use Prim.Native.Nat.{ℕ, suc, ◌+◌, ◌-◌, ◌*◌, ◌/◌, ◌%◌, ◌≤◌, ◌<◌}
 use native.Mathlib.Omega.{arith}
 use native.Mathlib.Decide.{dec_lt}
 use native.Mathlib.Numerals.{add-one}
-use lib.Dec.{eqb, ltb, eqb→eq, ltb→lt}
+use lib.Dec.{eqb, ltb}
 use lib.ListN.{get_or, take}
+use borrow.Author.Tests.{eqb-true, ltb-true}
 use Rattle.rules.specs.Calendar.{year, minus_year, month_lengths, month_length, sum, years, before_month, day_of_year, days_to}
 use Rattle.calendar.specs.Ranges.{last_day}
 use Rattle.calendar.proofs.Counting.{DateOf}
@@ -87,19 +88,19 @@ rest x = x - (153 * month x + 2) / 5
 -- March to December: 306 days, each tested in both rows
 spring_sum : (y x : ℕ) → x < 306 → sum (take (month x + 2) (month_lengths y)) + rest x + 306 ≡ sum (month_lengths y) + x
 unfolding sum
-spring_sum y x l = eqb→eq _ _ (by_row 306 (λ ls x. eqb (sum (take (month x + 2) ls) + rest x + 306) (sum ls + x)) tt tt y x l)
+spring_sum y x l = eqb-true _ _ (by_row 306 (λ ls x. eqb (sum (take (month x + 2) ls) + rest x + 306) (sum ls + x)) refl refl y x l)
 
 spring_fit : (y x : ℕ) → x < 306 → rest x < get_or (month_lengths y) (month x + 2) 0
-spring_fit y x l = ltb→lt _ _ (by_row 306 (λ ls x. ltb (rest x) (get_or ls (month x + 2) 0)) tt tt y x l)
+spring_fit y x l = ltb-true _ _ (by_row 306 (λ ls x. ltb (rest x) (get_or ls (month x + 2) 0)) refl refl y x l)
 
 -- January and February: the 60 days x after those, of which the last is one of 366 only
 winter_sum : (y x : ℕ) → x < 60 → sum (take (month (x + 306) - 10) (month_lengths y)) + rest (x + 306) ≡ x
 unfolding sum
-winter_sum y x l = eqb→eq _ _ (by_row 60 (λ ls x. eqb (sum (take (month (x + 306) - 10) ls) + rest (x + 306)) x) tt tt y x l)
+winter_sum y x l = eqb-true _ _ (by_row 60 (λ ls x. eqb (sum (take (month (x + 306) - 10) ls) + rest (x + 306)) x) refl refl y x l)
 
 winter_fit : (y x : ℕ) → x < 60 → rest (x + 306) < get_or (month_lengths y) (month (x + 306) - 10) 0 + (x + 307 - sum (month_lengths y))
 unfolding sum
-winter_fit y x l = ltb→lt _ _ (by_row 60 (λ ls x. ltb (rest (x + 306)) (get_or ls (month (x + 306) - 10) 0 + (x + 307 - sum ls))) tt tt y x l)
+winter_fit y x l = ltb-true _ _ (by_row 60 (λ ls x. ltb (rest (x + 306)) (get_or ls (month (x + 306) - 10) 0 + (x + 307 - sum ls))) refl refl y x l)
 
 -- ---- the date
 

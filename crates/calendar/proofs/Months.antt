@@ -5,8 +5,9 @@ use Prim.Native.Nat.{ℕ, zero, suc, ◌+◌, ◌-◌, ◌*◌, ◌/◌, ◌%◌
 use native.Mathlib.Omega.{arith}
 use native.Mathlib.Decide.{dec_lt}
 use native.Mathlib.Numerals.{add-one}
-use lib.Dec.{eqb, eqb→eq}
+use lib.Dec.{eqb}
 use lib.ListN.{get_or, take}
+use borrow.Author.Tests.{eqb-true}
 use Rattle.rules.specs.Calendar.{minus_year, sum, year_length, month_lengths, month_length, before_month, day_of_year, days_to}
 use Rattle.calendar.proofs.Counting.{DateOf}
 use Rattle.calendar.proofs.Years.{by_row, twelve, month_low, month_high, next_year}
@@ -24,7 +25,7 @@ take_one (l ∷ ls) (suc k) = omega (arith, take_one ls k)
 -- all twelve entries
 take_twelve : (y : ℕ) → sum (take 12 (month_lengths y)) ≡ year_length y
 unfolding sum
-take_twelve y = eqb→eq _ _ (by_row 1 (λ ls k. eqb (sum (take 12 ls)) (sum ls)) tt tt y 0 (omega arith)) ∙ twelve y
+take_twelve y = eqb-true _ _ (by_row 1 (λ ls k. eqb (sum (take 12 ls)) (sum ls)) refl refl y 0 (omega arith)) ∙ twelve y
 
 -- the days to the next month, and from December to the next year
 next_month : (y m d : ℕ) → 1 ≤ m → days_to y (m + 1) d ≡ days_to y m d + month_length y m

@@ -1,16 +1,17 @@
 -- The leap rule, and the lengths of months and years. Assumes nothing.
 use mathlib.Core.Path.{◌≡◌, refl}
 use Rattle.std.specs.Prelude.{if◌then◌else◌}
+use Rattle.std.specs.Int.{from_bool}
 use mathlib.Core.Bool.{Bool, true, false, not, ◌&&◌, ◌||◌}
 use mathlib.Core.List.{List, [], ◌∷◌}
 use Prim.Native.Nat.{ℕ, zero, suc, ◌+◌, ◌-◌, ◌*◌, ◌/◌, ◌%◌, ◌≤◌, ◌<◌}
 use native.Mathlib.Omega.{arith}
-use lib.Dec.{T, eqb, leb, leb→le}
+use lib.Dec.{eqb, leb}
 use lib.ListN.{get_or, take}
-use borrow.Author.Tests.{eqb-true, eqb-false}
+use borrow.Author.Tests.{eqb-true, eqb-false, leb-true}
+use Rattle.std.proofs.lemmas.Bool.{agree_below, agree_below_at}
 use Rattle.rules.specs.Calendar.{year, minus_year, leap, leap_row, common_row, month_lengths, month_length, year_length, sum, years, before_month, day_of_year, days_to}
 use Rattle.calendar.specs.Ranges.{last_day, MonthDay, Countable}
-use Rattle.calendar.proofs.Below.{all, below}
 
 -- the days that the leap rule adds to a year
 abbrev pub leap_day : ℕ → ℕ
@@ -50,36 +51,36 @@ twelve y = go (leap y)
     go true = refl
     go false = refl
 
--- the row of a table of two that `leap_row` says
-pub row : (y r : ℕ) (common leaps : List ℕ) → r ≡ leap_day y → get_or (common ∷ leaps ∷ []) r [] ≡ (if leap y then leaps else common)
+-- the row of a table of two: that of leap years is the second
+pub row : (y r : ℕ) (common leaps : List ℕ) → r ≡ from_bool (leap y) → get_or (common ∷ leaps ∷ []) r [] ≡ (if leap y then leaps else common)
 row y r common leaps = go (leap y)
   where
-    go : (b : Bool) → r ≡ (if b then 1 else 0) → get_or (common ∷ leaps ∷ []) r [] ≡ (if b then leaps else common)
+    go : (b : Bool) → r ≡ from_bool b → get_or (common ∷ leaps ∷ []) r [] ≡ (if b then leaps else common)
     go true e = rw e
     go false e = rw e
 
 -- a test of a row of months at each number below n, which antt computes for both rows
-pub by_row : (n : ℕ) (f : List ℕ → ℕ → Bool) → T (all (f common_row) n) → T (all (f leap_row) n) → (y k : ℕ) → k < n → T (f (month_lengths y) k)
+pub by_row : (n : ℕ) (f : List ℕ → ℕ → Bool) → agree_below (f common_row) (λ _. true) n ≡ true → agree_below (f leap_row) (λ _. true) n ≡ true → (y k : ℕ) → k < n → f (month_lengths y) k ≡ true
 unfolding month_lengths
 by_row n f c l y = go (leap y)
   where
-    go : (b : Bool) (k : ℕ) → k < n → T (f (if b then leap_row else common_row) k)
-    go true = below (f leap_row) n l
-    go false = below (f common_row) n c
+    go : (b : Bool) (k : ℕ) → k < n → f (if b then leap_row else common_row) k ≡ true
+    go true k = agree_below_at (f leap_row) (λ _. true) n k l
+    go false k = agree_below_at (f common_row) (λ _. true) n k c
 
 -- a month has 28 to 31 days
 pub month_low : (y m : ℕ) → 1 ≤ m → m ≤ 12 → 28 ≤ month_length y m
 unfolding month_length
-month_low y m l h = leb→le _ _ (by_row 12 (λ ls k. leb 28 (get_or ls k 0)) tt tt y (m - 1) (omega arith))
+month_low y m l h = leb-true _ _ (by_row 12 (λ ls k. leb 28 (get_or ls k 0)) refl refl y (m - 1) (omega arith))
 
 pub month_high : (y m : ℕ) → 1 ≤ m → m ≤ 12 → month_length y m ≤ 31
 unfolding month_length
-month_high y m l h = leb→le _ _ (by_row 12 (λ ls k. leb (get_or ls k 0) 31) tt tt y (m - 1) (omega arith))
+month_high y m l h = leb-true _ _ (by_row 12 (λ ls k. leb (get_or ls k 0) 31) refl refl y (m - 1) (omega arith))
 
 -- 31 days from a month's first on lie in its year
 pub before_high : (y m : ℕ) → 1 ≤ m → m ≤ 12 → before_month y m + 31 ≤ year_length y
 unfolding before_month sum
-before_high y m l h = rw (← twelve y) (leb→le _ _ (by_row 12 (λ ls k. leb (sum (take k ls) + 31) (sum ls)) tt tt y (m - 1) (omega arith)))
+before_high y m l h = rw (← twelve y) (leb-true _ _ (by_row 12 (λ ls k. leb (sum (take k ls) + 31) (sum ls)) refl refl y (m - 1) (omega arith)))
 
 -- so a day lies in its year, also past its month's end
 pub in_year : (y m d : ℕ) → MonthDay m d → day_of_year y m d < year_length y

@@ -14,7 +14,7 @@
 // For days 0 to 5373811 the century is at most 147, b 36524, the year of the century 99, x 365.
 #![tactic(auto)]
 
-ghost use Rattle.std.specs.Prelude.{if◌then◌else◌, ◌≡◌, ◌+◌, ◌≤◌, ◌<◌};
+ghost use Rattle.std.specs.Prelude.{if◌then◌else◌, ◌≡◌, ◌+◌, ◌≤◌, ◌<◌, ◌↔◌, IsSome, IfSome};
 ghost use Rattle.rules.specs.Calendar as rule;
 ghost use Rattle.calendar.specs.Ranges.{last_day, MonthDay, Countable, InRange};
 
@@ -23,7 +23,12 @@ use rules::Ymd;
 // The milliseconds of a day.
 const DAY: u64 = 86400000;
 
-// The instant at which -4713-01-01 begins.
+// The millisecond 0 and the last.
+const ZERO: u64 = 9223372036854775808;
+
+const LAST: u64 = 9223836305915575807;
+
+// The millisecond at which -4713-01-01 begins.
 const START: u64 = 9223372008558775808;
 
 // The day -4713-11-24, a Monday.
@@ -41,15 +46,19 @@ const BEFORE: [[u16; 12]; 2] = [
     [0, 31, 60, 91, 121, 152, 182, 213, 244, 274, 305, 335],
 ];
 
-// The row of these tables for a year: 1 where it is leap.
-pub fn leap_row(year: u32) -> usize
-    ensures { (result ≡ (if rule.leap year then 1 else 0)) × (result ≤ 1) }
+// A time from the millisecond 0 to the last.
+#[derive(Clone, Copy)]
+pub struct Instant {
+    pub ms: u64,
+    pub ghost in_range: { InRange ms },
+}
+
+// Whether a year is leap: "A year is leap if 4 divides it and 100 does not, or 400 does."
+#[tactic(auto, unfolding(rules::specs::Calendar::leap))]
+pub fn is_leap(year: u32) -> bool
+    ensures { result ≡ rule.leap year }
 {
-    if year % 4 == 0 && year % 100 != 0 || year % 400 == 0 {
-        1
-    } else {
-        0
-    }
+    year % 4 == 0 && year % 100 != 0 || year % 400 == 0
 }
 
 // The days of a month.
@@ -57,29 +66,25 @@ pub fn month_length(year: u32, month: u32) -> u32
     requires { (1 ≤ month) × (month ≤ 12) }
     ensures { (result ≡ rule.month_length year month) × (28 ≤ result) × (result ≤ 31) }
 {
-    let row = leap_row(year);
-    let before = month as usize - 1;
-    LENGTHS[row][before] as u32
+    u32::from(LENGTHS[usize::from(is_leap(year))][month as usize - 1])
 }
 
 // The days of the year before a day: 0 on 1 January. The day may lie past its month's end.
-pub fn day_of_year(year: u32, month: u32, day: u32) -> u32
-    requires { MonthDay month day }
-    ensures { (result ≡ rule.day_of_year year month day) × (result ≤ 365) }
+pub fn day_of_year(date: Ymd) -> u32
+    requires { MonthDay date.month date.day }
+    ensures { (result ≡ rule.day_of_year date.year date.month date.day) × (result ≤ 365) }
 {
-    let row = leap_row(year);
-    let before = month as usize - 1;
-    BEFORE[row][before] as u32 + (day - 1)
+    u32::from(BEFORE[usize::from(is_leap(date.year))][date.month as usize - 1]) + date.day - 1
 }
 
 // The days from -4713-01-01 to a date, whose day may lie past its month's end: 365 for each year and one for each leap year before this
 // one. Both are counted from the year held as 0, and what comes before -4713 is taken off.
-pub fn days_to(year: u32, month: u32, day: u32) -> u32
-    requires { Countable year month day }
-    ensures { (result ≡ rule.days_to year month day) × (result ≤ last_day) }
+pub fn days_to(date: Ymd) -> u32
+    requires { Countable date.year date.month date.day }
+    ensures { (result ≡ rule.days_to date.year date.month date.day) × (result ≤ last_day) }
 {
-    let past = year - 1;
-    365 * year + past / 4 - past / 100 + past / 400 - 12888312 + day_of_year(year, month, day)
+    let past = date.year - 1;
+    365 * date.year + past / 4 - past / 100 + past / 400 - 12888312 + day_of_year(date)
 }
 
 // The date that many days after -4713-01-01. The head of this file derives it.
@@ -110,69 +115,78 @@ pub fn date_after(days: u32) -> Ymd
 }
 
 // The instant at which a date begins, START at the earliest. Its day may lie past its month's end.
-pub fn midnight(year: u32, month: u32, day: u32) -> u64
-    requires { Countable year month day }
-    ensures { (result ≡ rule.midnight year month day) × (9223372008558775808 ≤ result) × (result + 86399999 ≤ rule.last) }
+#[tactic(auto, using(crate::proofs::Instants::start_is), unfolding(rules::specs::Calendar::midnight))]
+pub fn midnight(date: Ymd) -> u64
+    requires { Countable date.year date.month date.day }
+    ensures { (result ≡ rule.midnight date.year date.month date.day) × (9223372008558775808 ≤ result) × (result + 86399999 ≤ rule.last) }
 {
-    START + days_to(year, month, day) as u64 * DAY
+    START + u64::from(days_to(date)) * DAY
 }
 
-// The days from -4713-01-01 to an instant: DAY_ZERO at the earliest.
-pub fn day_of(ms: u64) -> u32
-    requires { InRange ms }
-    ensures { (result ≡ rule.day_of ms) × (327 ≤ result) × (result ≤ last_day) }
-{
-    ((ms - START) / DAY) as u32
-}
-
-// The milliseconds since midnight, for any instant. Before -4713-01-01, where no day is counted, the rules say 0.
+// The milliseconds since midnight, for any milliseconds. Before -4713-01-01, where no day is counted, the rules say 0.
+#[tactic(auto, using(crate::proofs::Instants::start_is), unfolding(rules::specs::Calendar::time_of_day))]
 pub fn time_of_day(ms: u64) -> u32
     ensures { (result ≡ rule.time_of_day ms) × (result < 86400000) }
 {
-    if ms < START {
-        0
-    } else {
-        ((ms - START) % DAY) as u32
+    (ms.saturating_sub(START) % DAY) as u32
+}
+
+impl Instant {
+    pub fn new(ms: u64) -> Option<Instant>
+        ensures some { IsSome result ↔ InRange ms }
+        ensures value { IfSome result (λ at. at.ms ≡ ms) }
+    {
+        if ms < ZERO || LAST < ms {
+            return None;
+        }
+        Some(Instant { ms })
     }
-}
 
-// The date of an instant.
-pub fn civil(ms: u64) -> Ymd
-    requires { InRange ms }
-    ensures { (result ≡ rule.civil ms) × Countable result.year result.month result.day }
-{
-    date_after(day_of(ms))
-}
+    // The days from -4713-01-01 on: DAY_ZERO at the earliest.
+    #[tactic(auto, using(crate::proofs::Instants::start_is), unfolding(rules::specs::Calendar::day_of))]
+    pub fn day_of(self) -> u32
+        ensures { (result ≡ rule.day_of self.ms) × (327 ≤ result) × (result ≤ last_day) }
+    {
+        ((self.ms - START) / DAY) as u32
+    }
 
-// The days since Monday: 0 on Monday to 6 on Sunday.
-pub fn since_monday(ms: u64) -> u32
-    requires { InRange ms }
-    ensures { (result ≡ rule.since_monday ms) × (result ≤ 6) }
-{
-    (day_of(ms) - DAY_ZERO) % 7
-}
+    // The date.
+    #[tactic(auto, unfolding(rules::specs::Calendar::civil))]
+    pub fn civil(self) -> Ymd
+        ensures { (result ≡ rule.civil self.ms) × Countable result.year result.month result.day }
+    {
+        date_after(self.day_of())
+    }
 
-// The days since Sunday: 0 on Sunday to 6 on Saturday.
-pub fn since_sunday(ms: u64) -> u32
-    requires { InRange ms }
-    ensures { (result ≡ rule.since_sunday ms) × (result ≤ 6) }
-{
-    (day_of(ms) - DAY_ZERO + 1) % 7
-}
+    // The days since Monday: 0 on Monday to 6 on Sunday.
+    #[tactic(auto, using(crate::proofs::Instants::day_zero_lem), unfolding(rules::specs::Calendar::since_monday))]
+    pub fn since_monday(self) -> u32
+        ensures { (result ≡ rule.since_monday self.ms) × (result ≤ 6) }
+    {
+        (self.day_of() - DAY_ZERO) % 7
+    }
 
-// The Thursday of an instant's week, which goes from Monday to Sunday: its year is the ISO year.
-pub fn thursday(ms: u64) -> Ymd
-    requires { InRange ms }
-    ensures { (result ≡ rule.thursday ms) × Countable result.year result.month result.day }
-{
-    date_after(day_of(ms) + 3 - since_monday(ms))
-}
+    // The days since Sunday: 0 on Sunday to 6 on Saturday.
+    #[tactic(auto, using(crate::proofs::Instants::day_zero_lem), unfolding(rules::specs::Calendar::since_sunday))]
+    pub fn since_sunday(self) -> u32
+        ensures { (result ≡ rule.since_sunday self.ms) × (result ≤ 6) }
+    {
+        (self.day_of() - DAY_ZERO + 1) % 7
+    }
 
-// The ISO week, from 1.
-pub fn iso_week(ms: u64) -> u32
-    requires { InRange ms }
-    ensures { (result ≡ rule.iso_week ms) × (1 ≤ result) × (result ≤ 53) }
-{
-    let date = thursday(ms);
-    day_of_year(date.year, date.month, date.day) / 7 + 1
+    // The Thursday of the week, which goes from Monday to Sunday: its year is the ISO year.
+    #[tactic(auto, using(crate::proofs::Weeks::thursday_high), unfolding(rules::specs::Calendar::thursday))]
+    pub fn thursday(self) -> Ymd
+        ensures { (result ≡ rule.thursday self.ms) × Countable result.year result.month result.day }
+    {
+        date_after(self.day_of() + 3 - self.since_monday())
+    }
+
+    // The ISO week, from 1.
+    #[tactic(auto, unfolding(rules::specs::Calendar::iso_week))]
+    pub fn iso_week(self) -> u32
+        ensures { (result ≡ rule.iso_week self.ms) × (1 ≤ result) × (result ≤ 53) }
+    {
+        day_of_year(self.thursday()) / 7 + 1
+    }
 }

@@ -1,3 +1,4 @@
+pub mod Names
 pub mod Limits
 pub mod Readers
 pub mod Count

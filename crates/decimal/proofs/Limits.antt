@@ -1,22 +1,27 @@
--- What the limits make of a number: where it is over them, and that to hold numbers up to 10 ^ 19 makes no difference to it. Assumes nothing.
+-- What the limits make of a number: where it is over them, and that to hold numbers up to 2 ^ 64 - 1 makes no difference to it. Assumes nothing.
 use mathlib.Core.Path.{◌≡◌, refl, sym, ap, ◌∙◌}
 use Rattle.std.specs.Prelude.{if◌then◌else◌}
 use mathlib.Core.Bool.{Bool, true, false, ◌&&◌}
 use mathlib.Core.List.{List, [], ◌∷◌, ◌++◌}
-use Prim.Native.Nat.{ℕ, ◌+◌, ◌-◌, ◌*◌, ◌^◌, ◌≤◌, ◌<◌, min, zero-le}
-use native.Mathlib.Nat.{le_refl, le_of_lt, lt_of_not-le, min-eq_left, min-eq_right, mul-one}
+use Rattle.std.specs.Int.{abs_diff}
+use Prim.Native.Nat.{ℕ, ◌+◌, ◌-◌, ◌*◌, ◌^◌, ◌≤◌, ◌<◌, zero-le}
+use native.Mathlib.Nat.{le_of_lt, lt_of_not-le, min-eq_left, min-eq_right, mul-one}
 use native.Mathlib.Decide.{dec_le}
 use native.Mathlib.Omega.{arith}
 use borrow.Author.Tests.{lt-ltb, le-ltb, le-leb, lt-leb, ne_eqb}
-use lib.Dec.{eqb, ltb, lit≤}
-use lib.Ieee.{Float, binary64, round, neg}
+use lib.Dec.{eqb, ltb, lit≤, lit<}
+use lib.Ieee.{Float, binary64, of_bits, round, neg}
 use Rattle.real.proofs.Sign.{round_neg}
 use Rattle.rules.specs.Basics.{Read, got, other, refuse, ◌>>=◌}
 use Rattle.rules.specs.Decimal.{value, nearest_to}
 use Rattle.rules.specs.declared.Refusal.{Refusal}
-use Rattle.decimal.specs.Held.{held, held_exponent}
+use Rattle.decimal.specs.Held.{held, held_exponent, scaled}
 
 -- ---- the number that digits write, held
+
+-- what is held of the largest
+abbrev pub most : ℕ
+most = 18446744073709551615
 
 pub held_more : (v d : ℕ) → held (held v * 10 + d) ≡ held (v * 10 + d)
 held_more v d = omega arith
@@ -73,8 +78,17 @@ module _ (minus : Bool) (d up down : ℕ) where
       ∙ ap (λ (x : ℕ). got (round binary64 minus (d * 10 ^ x) (10 ^ (down - up)))) e
       ∙ ap (λ (x : ℕ). got (round binary64 minus x (10 ^ (down - up)))) (mul-one d)
 
-  pub refused : (d ≡ 0 → ⊥) → over minus d ≡ refuse Refusal.Decimal
-  refused z = rw (ne_eqb d 0 z)
+  pub too_far : (d ≡ 0 → ⊥) → 22 < abs_diff up down → nearest_to minus d up down ≡ refuse Refusal.Decimal
+  too_far z l = go (dec_le down up)
+    where
+      go : Dec (down ≤ up) → nearest_to minus d up down ≡ refuse Refusal.Decimal
+      go (yes h) = too_high (omega arith) ∙ rw (ne_eqb d 0 z)
+      go (no h) = too_low (omega (arith, h)) (omega (arith, h)) ∙ rw (ne_eqb d 0 z)
+
+-- the zero of the code
+pub zero : of_bits binary64 0 ≡ round binary64 false 0 1
+unfolding of_bits round
+zero = refl
 
 pub signed : (minus : Bool) (a c : ℕ) → (if minus then neg (round binary64 false a c) else round binary64 false a c) ≡ round binary64 minus a c
 signed true a c = round_neg binary64 a c
@@ -84,32 +98,30 @@ signed false a c = refl
 
 module _ (minus : Bool) (d : ℕ) where
   pub held_digits : (up down : ℕ) → nearest_to minus (held d) up down ≡ nearest_to minus d up down
-  held_digits up down = elim (dec_le d (10 ^ 19)) [
+  held_digits up down = elim (dec_le d most) [
     | yes h ↦ ap (λ (x : ℕ). nearest_to minus x up down) (min-eq_left h)
-    | no n ↦ let h = le_of_lt (lt_of_not-le n) in ap (λ (x : ℕ). nearest_to minus x up down) (min-eq_right h) ∙ too_long minus (10 ^ 19) up down (le_refl (10 ^ 19)) ∙ sym (too_long minus d up down h)
+    | no n ↦ let h = le_of_lt (lt_of_not-le n) in ap (λ (x : ℕ). nearest_to minus x up down) (min-eq_right h) ∙ too_long minus most up down (lit≤ tt) ∙ sym (too_long minus d up down (omega arith))
   ]
 
-  pub held_up : (most e tenths : ℕ) → tenths + 22 < most → nearest_to minus d (min e most) tenths ≡ nearest_to minus d e tenths
-  held_up most e tenths l = elim (dec_le e most) [
+  pub held_up : (e tenths : ℕ) → tenths + 22 < most → nearest_to minus d (held e) tenths ≡ nearest_to minus d e tenths
+  held_up e tenths l = elim (dec_le e most) [
     | yes h ↦ ap (λ (x : ℕ). nearest_to minus d x tenths) (min-eq_left h)
     | no n ↦ let h = le_of_lt (lt_of_not-le n) in ap (λ (x : ℕ). nearest_to minus d x tenths) (min-eq_right h) ∙ too_high minus d most tenths l ∙ sym (too_high minus d e tenths (omega arith))
   ]
 
-  pub held_down : (most e tenths : ℕ) → 22 < most → nearest_to minus d 0 (tenths + min e most) ≡ nearest_to minus d 0 (tenths + e)
-  held_down most e tenths l = elim (dec_le e most) [
-    | yes h ↦ ap (λ (x : ℕ). nearest_to minus d 0 (tenths + x)) (min-eq_left h)
-    | no n ↦ let h = le_of_lt (lt_of_not-le n) in ap (λ (x : ℕ). nearest_to minus d 0 (tenths + x)) (min-eq_right h) ∙ too_low minus d 0 (tenths + most) (omega arith) zero-le ∙ sym (too_low minus d 0 (tenths + e) (omega arith) zero-le)
+  pub held_down : (e : ℕ) → nearest_to minus d 0 (held e) ≡ nearest_to minus d 0 e
+  held_down e = elim (dec_le e most) [
+    | yes h ↦ ap (λ (x : ℕ). nearest_to minus d 0 x) (min-eq_left h)
+    | no n ↦ let h = le_of_lt (lt_of_not-le n) in ap (λ (x : ℕ). nearest_to minus d 0 x) (min-eq_right h) ∙ too_low minus d 0 most (lit< tt) zero-le ∙ sym (too_low minus d 0 e (omega arith) zero-le)
   ]
 
--- a number with an exponent, as the rules read it
-abbrev pub scaled : Bool → ℕ → ℕ → Bool × ℕ → Read Float
-scaled minus d tenths x = nearest_to minus d (if x.0 then 0 else x.1) (tenths + (if x.0 then x.1 else 0))
-
-pub held_scaled : (minus : Bool) (d tenths : ℕ) (x : Read (Bool × ℕ)) → tenths + 22 < 10 ^ 19 → ◌>>=◌ (held_exponent x) (scaled minus (held d) tenths) ≡ ◌>>=◌ x (scaled minus d tenths)
+pub held_scaled : (minus : Bool) (d tenths : ℕ) (x : Read (Bool × ℕ)) → tenths + 22 < most → ◌>>=◌ (held_exponent x) (scaled minus (held d) tenths) ≡ ◌>>=◌ x (scaled minus d tenths)
 held_scaled minus d tenths other l = refl
 held_scaled minus d tenths (refuse r) l = refl
 held_scaled minus d tenths (got x) l = go x.0 x.1
   where
     go : (m : Bool) (e : ℕ) → scaled minus (held d) tenths (m, held e) ≡ scaled minus d tenths (m, e)
-    go true e = held_digits minus d 0 (tenths + held e) ∙ held_down minus d (10 ^ 19) e tenths (lit≤ tt)
-    go false e = held_digits minus d (held e) (tenths + 0) ∙ held_up minus d (10 ^ 19) e (tenths + 0) (omega arith)
+    go true e =
+        let h : held (tenths + held e) ≡ held (tenths + e) = omega arith in
+        held_digits minus d 0 (tenths + held e) ∙ sym (held_down minus d (tenths + held e)) ∙ ap (nearest_to minus d 0) h ∙ held_down minus d (tenths + e)
+    go false e = held_digits minus d (held e) (tenths + 0) ∙ held_up minus d e (tenths + 0) (omega arith)

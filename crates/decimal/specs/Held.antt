@@ -1,29 +1,25 @@
--- What the readers hand each other: numbers held up to 10 ^ 19, and places.
-use Rattle.std.specs.Prelude.{◌≡◌, Bool, true, false, List, ℕ, ◌^◌, ◌≤◌, min, length, drop}
+-- What the readers hand each other: numbers held up to the last of 64 bits.
+use Rattle.std.specs.Prelude.{if◌then◌else◌, ◌≡◌, Bool, List, ℕ, ◌+◌, min, Float, length}
 use Rattle.rules.specs.Basics.{Read, got, other, refuse}
-use Rattle.rules.specs.Decimal.{value}
-use Rattle.decimal.specs.declared.Power.{Power}
+use Rattle.rules.specs.Decimal.{value, nearest_to}
 use Rattle.decimal.specs.declared.Digits.{Digits}
 
--- a number that digits write: up to 10 ^ 19 itself, and from there on 10 ^ 19
+-- a number that digits write: up to 2 ^ 64 - 1 itself, and from there on that
 abbrev pub held : ℕ → ℕ
-held n = min n (10 ^ 19)
+held n = min n 18446744073709551615
 
--- digits, and what follows them in s, of which the code holds the number, the count and the next place
-pub record Taken (of : List ℕ × List ℕ) (s : List ℕ) (before : ℕ) (d : Digits) : Type 0 where
+-- digits, and what follows them, of which the code holds the number, the count and the rest
+pub record Taken (of : List ℕ × List ℕ) (before : ℕ) (d : Digits) : Type 0 where
   pub number : d.value ≡ held (value before of.0)
   pub many : d.count ≡ length of.0
-  pub few : d.count ≤ d.next
-  pub rest : of.1 ≡ drop d.next s
-  pub within : d.next ≤ length s
+  pub follows : d.rest.now ≡ of.1
 
--- an exponent: whether it is negative, and its magnitude
-abbrev pub as_exponent : Power → Read (Bool × ℕ)
-as_exponent Power.NotOne = other
-as_exponent (Power.Up e) = got (false, e)
-as_exponent (Power.Down e) = got (true, e)
-
+-- an exponent, its magnitude held
 abbrev pub held_exponent : Read (Bool × ℕ) → Read (Bool × ℕ)
 held_exponent (got x) = got (x.0, held x.1)
 held_exponent other = other
 held_exponent (refuse r) = refuse r
+
+-- the number of the digits d with an exponent, where so many of them stand after the point
+abbrev pub scaled : Bool → ℕ → ℕ → Bool × ℕ → Read Float
+scaled minus d tenths x = nearest_to minus d (if x.0 then 0 else x.1) (tenths + (if x.0 then x.1 else 0))

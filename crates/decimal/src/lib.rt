@@ -1,23 +1,24 @@
 // A text to the number that it writes: the grammar of Rust's f64 reading, the limits of document 01, the nearest f64.
 //
-// `decimal` is all that other crates use. Of `-12.50e1` the sign is a minus, the digits are D = 1250, two of them stand after the point and
-// the exponent is 1: the last digit's power of ten is 1 - 2 = -1, and the number is the f64 nearest to -1250 / 10.
+// `decimal` and `sign` are all that other crates use. Of `-12.50e1` the sign is a minus, the digits are D = 1250, two of them stand after the
+// point and the exponent is 1: the last digit's power of ten is 1 - 2 = -1, and the number is the f64 nearest to -1250 / 10.
 //
 //     1.5   -0   .5   5.   1e22   0e99999   inf   -Infinity   NaN      are numbers
 //     .   e5   1e   1e+   +-1   1_000   0x10   infi                    are none
 //     1e23   1e-23   12345678901234567890   1.0000000000000000000      are over the limits: power 23, power -23, 20 digits
 //
-// A reader takes the slice and a place `at` in it, and hands back the place `next` where it stopped.
-// The number that digits write is held up to 10^19, and as 10^19 from there on: as D it has more than 19 digits, and as an exponent no
+// A reader takes a slice and hands back what it read and the rest of the slice.
+// The number that digits write is held up to 2^64 - 1, and as that from there on: as D it has more than 19 digits, and as an exponent no
 // digits after the point, of which a slice has fewer than 2^63, bring it back to 22.
 #![tactic(auto)]
 
-ghost use Rattle.std.specs.Prelude.{if◌then◌else◌, ◌≡◌, ◌||◌, ◌+◌, ◌*◌, ◌^◌, ◌≤◌, ◌<◌, min, length, drop};
+ghost use Rattle.std.specs.Prelude.{if◌then◌else◌, ◌≡◌};
 ghost use Rattle.std.specs.Float.Ieee.{neg};
-ghost use Rattle.rules.specs.Basics.{is};
+ghost use Rattle.rules.specs.Basics.{read_some, read_ok, read_tried};
 ghost use Rattle.rules.specs.Decimal as rule;
-ghost use Rattle.decimal.specs.AsRead.{as_read};
-ghost use Rattle.decimal.specs.Held.{as_exponent, held, held_exponent, Taken};
+ghost use Rattle.decimal.specs.Held.{held_exponent, scaled, Taken};
+
+use rules::Refusal;
 
 mod nearest;
 
@@ -26,57 +27,29 @@ const OVER: u64 = 10000000000000000000;
 
 const POWER: u64 = 22;
 
-// What a text is: no decimal, one that is over the limits (refusal 5), or this f64.
-#[derive(Clone, Copy)]
-pub enum Number {
-    NotOne,
-    Over,
-    Is(f64),
-}
-
 // "Decimals follow the grammar of Rust's f64 reading: optional sign; digits with an optional point, at least one digit; optional exponent;
 // or inf, infinity, nan."
-pub fn decimal(s: &[u8]) -> Number
-    ensures { as_read result ≡ rule.decimal s.now }
+// None where the text is no decimal, and refusal 5 where it is over the limits.
+#[tactic(auto, unfolding(rules::specs::Decimal::decimal))]
+pub fn decimal(s: &[u8]) -> Result<Option<f64>, Refusal>
+    ensures { read_tried (λ x. x) result ≡ rule.decimal s.now }
 {
-    let t = sign(s, 0);
-    let minus = t.minus;
-    let at = t.next;
-    match named(&s[at..], minus) {
-        Number::NotOne => digits_form(s, at, minus),
-        Number::Over => Number::Over,
-        Number::Is(x) => Number::Is(x),
+    let (minus, rest) = sign(s);
+    match named(rest, minus) {
+        Some(x) => Ok(Some(x)),
+        None => digits_form(rest, minus),
     }
 }
 
-// Whether a minus stood there, and the place after the sign.
-#[derive(Clone, Copy)]
-pub struct Signed {
-    pub minus: bool,
-    pub next: usize,
-}
-
-// "optional sign"
-pub fn sign(s: &[u8], at: usize) -> Signed
-    requires { at ≤ length s.now }
-    ensures s_value { rule.sign (drop at s.now) ≡ (result.minus, drop result.next s.now) }
-    ensures next_in_bounds { result.next ≤ length s.now }
+// "optional sign": whether it is a minus, and what follows.
+#[tactic(auto, unfolding(rules::specs::Decimal::sign))]
+pub fn sign(s: &[u8]) -> (bool, &[u8])
+    ensures { (result.0, result.1.now) ≡ rule.sign s.now }
 {
-    if text::has(s, at, b'-') {
-        return Signed {
-            minus: true,
-            next: at + 1,
-        };
-    }
-    if text::has(s, at, b'+') {
-        return Signed {
-            minus: false,
-            next: at + 1,
-        };
-    }
-    Signed {
-        minus: false,
-        next: at,
+    match s {
+        [b'-', rest @ ..] => (true, rest),
+        [b'+', rest @ ..] => (false, rest),
+        _ => (false, s),
     }
 }
 
@@ -87,177 +60,114 @@ fn with_sign(minus: bool, x: f64) -> f64
 }
 
 // "inf, infinity, nan", in either case.
-fn named(s: &[u8], minus: bool) -> Number
-    ensures { as_read result ≡ rule.named_form minus s.now }
+#[tactic(auto, using(crate::proofs::Names::infinite, crate::proofs::Names::no_number), unfolding(rules::specs::Decimal::named_form))]
+fn named(s: &[u8], minus: bool) -> Option<f64>
+    ensures { read_some (λ x. x) result ≡ rule.named_form minus s.now }
 {
-    if text::is_word(s, b"inf") {
-        return Number::Is(with_sign(minus, 1.0 / 0.0));
+    if text::is_word(s, b"inf") || text::is_word(s, b"infinity") {
+        Some(with_sign(minus, f64::INFINITY))
+    } else if text::is_word(s, b"nan") {
+        Some(f64::NAN)
+    } else {
+        None
     }
-    if text::is_word(s, b"infinity") {
-        return Number::Is(with_sign(minus, 1.0 / 0.0));
-    }
-    if text::is_word(s, b"nan") {
-        return Number::Is(0.0 / 0.0);
-    }
-    Number::NotOne
 }
 
 // "digits with an optional point, at least one digit; optional exponent"
-fn digits_form(s: &[u8], at: usize, minus: bool) -> Number
-    requires { at ≤ length s.now }
-    ensures { as_read result ≡ rule.digits_form minus (drop at s.now) }
+fn digits_form(s: &[u8], minus: bool) -> Result<Option<f64>, Refusal>
+    ensures { read_tried (λ x. x) result ≡ rule.digits_form minus s.now }
 {
-    let ones = run(s, at, 0);
-    let all = point(s, ones.next, ones.value);
-    if ones.count + all.count == 0 {
-        return Number::NotOne;
+    let ones = run(s, 0);
+    let all = point(ones.rest, ones.value);
+    if ones.count == 0 && all.count == 0 {
+        return Ok(None);
     }
-    let tenths = all.count as u64;
-    match exponent(s, all.next) {
-        Power::NotOne => Number::NotOne,
-        Power::Up(e) => nearest_to(minus, all.value, e, tenths),
-        Power::Down(e) => nearest_to(minus, all.value, 0, lowered(tenths, e)),
+    match exponent(all.rest) {
+        Some(e) => Ok(Some(scaled(minus, all.value, all.count as u64, e)?)),
+        None => Ok(None),
     }
 }
 
-// Digits: the number that they write, after those before them; how many they are; the place after them.
+// Digits of which so many stand after the point, with an exponent.
+#[tactic(auto, using(crate::proofs::Limits::held_down))]
+fn scaled(minus: bool, d: u64, tenths: u64, exponent: (bool, u64)) -> Result<f64, Refusal>
+    ensures { read_ok (λ x. x) result ≡ scaled minus d tenths exponent }
+{
+    match exponent {
+        (false, e) => nearest_to(minus, d, e, tenths),
+        (true, e) => nearest_to(minus, d, 0, tenths.saturating_add(e)),
+    }
+}
+
+// Digits: the number that they write, after those before them; how many they are; what follows them.
 #[derive(Clone, Copy)]
-struct Digits {
+struct Digits<'a> {
     value: u64,
     count: usize,
-    next: usize,
+    rest: &'a [u8],
 }
 
-// The digits from `at` on, after digits whose number is `from`.
-fn run(s: &[u8], at: usize, from: u64) -> Digits
-    requires { (at ≤ length s.now) × (from ≤ 10 ^ 19) }
-    ensures { Taken (rule.run (drop at s.now)) s.now from result }
+// The digits at the front, after digits whose number is `from`.
+fn run(s: &[u8], from: u64) -> Digits<'_>
+    ensures { Taken (rule.run s.now) from result }
 {
     let mut value = from;
-    let mut i = at;
-    while i < s.len() {
-        let b = s[i];
-        if !text::is_digit(b) {
-            return Digits {
-                value,
-                count: i - at,
-                next: i,
-            };
-        }
-        value = more(value, wide(b) - 48);
-        i += 1;
+    let mut rest = s;
+    while let Some((d, after)) = real::digit(rest) {
+        value = value.saturating_mul(10).saturating_add(u64::from(d));
+        rest = after;
     }
     Digits {
         value,
-        count: i - at,
-        next: i,
+        count: s.len() - rest.len(),
+        rest,
     }
 }
 
 // The digits after a point, where there is one.
-fn point(s: &[u8], at: usize, from: u64) -> Digits
-    requires { (at ≤ length s.now) × (from ≤ 10 ^ 19) }
-    ensures { Taken (rule.point (drop at s.now)) s.now from result }
+#[tactic(auto, unfolding(rules::specs::Decimal::point, rules::specs::Decimal::value))]
+fn point(s: &[u8], from: u64) -> Digits<'_>
+    ensures { Taken (rule.point s.now) from result }
 {
-    if !text::has(s, at, b'.') {
-        return Digits {
+    match s {
+        [b'.', rest @ ..] => run(rest, from),
+        _ => Digits {
             value: from,
             count: 0,
-            next: at,
-        };
+            rest: s,
+        },
     }
-    run(s, at + 1, from)
 }
 
-// The cast stands in a function of its own, which needs no proof that a byte of a slice fits.
-fn wide(b: u8) -> u64
-    ensures { result ≡ b }
+// "optional exponent", and nothing after it: whether it is negative, and its magnitude.
+#[tactic(auto, unfolding(rules::specs::Decimal::exponent))]
+fn exponent(s: &[u8]) -> Option<(bool, u64)>
+    ensures { read_some (λ x. x) result ≡ held_exponent (rule.exponent s.now) }
 {
-    b as u64
-}
-
-// One digit more.
-fn more(value: u64, digit: u64) -> u64
-    requires { (value ≤ 10 ^ 19) × (digit ≤ 9) }
-    ensures { result ≡ held (value * 10 + digit) }
-{
-    if value < OVER / 10 {
-        value * 10 + digit
-    } else {
-        OVER
-    }
-}
-
-// An exponent: none that reads, one that is not negative, one that is.
-#[derive(Clone, Copy)]
-enum Power {
-    NotOne,
-    Up(u64),
-    Down(u64),
-}
-
-// "optional exponent", and nothing after it.
-fn exponent(s: &[u8], at: usize) -> Power
-    requires { at ≤ length s.now }
-    ensures { as_exponent result ≡ held_exponent (rule.exponent (drop at s.now)) }
-{
-    if s.len() <= at {
-        return Power::Up(0);
-    }
-    if !is_e(s[at]) {
-        return Power::NotOne;
-    }
-    let t = sign(s, at + 1);
-    let d = run(s, t.next, 0);
-    if d.count == 0 {
-        return Power::NotOne;
-    }
-    if d.next < s.len() {
-        return Power::NotOne;
-    }
-    if t.minus {
-        return Power::Down(d.value);
-    }
-    Power::Up(d.value)
-}
-
-fn is_e(b: u8) -> bool
-    ensures { result ≡ (is "e" b || is "E" b) }
-{
-    b == b'e' || b == b'E'
-}
-
-// The digits after the point and a negative exponent together. Past 22 it makes no difference how large the exponent is.
-fn lowered(tenths: u64, e: u64) -> u64
-    requires { tenths < 2 ^ 63 }
-    ensures { result ≡ tenths + min e 23 }
-{
-    if e <= POWER {
-        tenths + e
-    } else {
-        tenths + POWER + 1
-    }
+    let (minus, digits) = match s {
+        [] => return Some((false, 0)),
+        [b'e' | b'E', rest @ ..] => sign(rest),
+        _ => return None,
+    };
+    let d = run(digits, 0);
+    (d.count != 0 && d.rest.is_empty()).then_some((minus, d.value))
 }
 
 // "Limits: D, the digits written without leading zeros, has at most 19; the last digit's power of ten is -22 to 22. D = 0 always fits."
 // The power is up - down.
-fn nearest_to(minus: bool, d: u64, up: u64, down: u64) -> Number
-    ensures { as_read result ≡ rule.nearest_to minus d up down }
+fn nearest_to(minus: bool, d: u64, up: u64, down: u64) -> Result<f64, Refusal>
+    ensures { read_ok (λ x. x) result ≡ rule.nearest_to minus d up down }
 {
     if d == 0 {
-        return Number::Is(with_sign(minus, 0.0));
+        return Ok(with_sign(minus, 0.0));
     }
-    if OVER <= d {
-        return Number::Over;
+    if d >= OVER || up.abs_diff(down) > POWER {
+        return Err(Refusal::Decimal);
     }
-    if down <= up {
-        if POWER < up - down {
-            return Number::Over;
-        }
-        return Number::Is(with_sign(minus, nearest::above(d, up - down)));
-    }
-    if POWER < down - up {
-        return Number::Over;
-    }
-    Number::Is(with_sign(minus, nearest::below(d, down - up)))
+    let x = if down <= up {
+        nearest::above(d, (up - down) as u32)
+    } else {
+        nearest::below(d, (down - up) as u32)
+    };
+    Ok(with_sign(minus, x))
 }

@@ -1,13 +1,13 @@
 -- Texts laid one after another. Assumes nothing.
-use Prim.Native.Nat.{ℕ, suc, ◌+◌}
+use Prim.Native.Nat.{ℕ, suc, ◌+◌, ◌≤◌}
 use mathlib.Core.Path.{◌≡◌, refl, sym, ap, ◌∙◌}
-use mathlib.Core.List.{List, [], ◌∷◌, ◌++◌}
+use mathlib.Core.List.{List, [], ◌∷◌, ◌++◌, append_assoc}
 use mathlib.Core.Logic.{◌≢◌}
 use native.Mathlib.Omega.{arith}
 use native.Mathlib.Nat.{add-zero, add_assoc}
-use native.Mathlib.Numerals.{add-one}
-use lib.ListN.{length, set, length-append}
-use lib.Seq.{sets, length-sets, set_comm}
+use borrow.Rule.Slice.PartMut.{put_mid}
+use lib.ListN.{length, take, drop, set, length-append}
+use lib.Seq.{drop-drop, sets, sets-eq, length-sets, set_comm}
 use Rattle.digits.specs.Writers.{Room, Laid}
 
 pub sets_append : (l : List ℕ) (i : ℕ) (xs ys : List ℕ) → sets (sets l i xs) (i + length xs) ys ≡ sets l i (xs ++ ys)
@@ -46,9 +46,9 @@ laid_as e l = rw e at l
 pub room_as : {a xs ys : List ℕ} {at : ℕ} → xs ≡ ys → Room a at xs → Room a at ys
 room_as e h = rw e at h
 
--- one byte, and two
-pub lay_one : (l : List ℕ) (i a : ℕ) → Laid l i (a ∷ []) (set l i a) (i + 1)
-lay_one l i a = record { place = refl; bytes = refl }
-
-pub lay_two : (l : List ℕ) (i a b : ℕ) → Laid l i (a ∷ b ∷ []) (set (set l i a) (i + 1) b) (i + 2)
-lay_two l i a b = record { place = refl; bytes = rw (add-one i) }
+-- a text that is copied there
+pub laid_copy : (l : List ℕ) (at k : ℕ) (s new : List ℕ) → k ≡ length s → at + length s ≤ length l → new ≡ s → Laid l at s (put_mid at k l new) (at + length s)
+laid_copy l at k s new n h e = record {
+  place = refl;
+  bytes = rw (e, n, drop-drop (length s) at l, ← append_assoc (take at l) s (drop (at + length s) l)) (sym (sets-eq s l at h));
+}

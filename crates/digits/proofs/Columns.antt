@@ -1,12 +1,11 @@
 -- The n lowest places of a number to a base, the highest first, each shown as f says: rules' `places` is one, `hex` another. Each fact is
 -- shown once, over the number of places. Assumes nothing.
-use Prim.Native.Nat.{ℕ, zero, suc, ◌+◌, ◌/◌, ◌%◌, ◌^◌, ◌<◌}
-use mathlib.Core.Path.{◌≡◌, refl, sym, ap, ◌∙◌}
+use Prim.Native.Nat.{ℕ, zero, suc, ◌/◌, ◌%◌, ◌^◌, ◌<◌}
+use mathlib.Core.Path.{◌≡◌, refl, ap, ◌∙◌}
 use mathlib.Core.List.{List, [], ◌∷◌, ◌++◌}
-use native.Mathlib.Nat.{zero-add, suc-add, pow-zero, pow-suc, pow-succ', one-le-pow, div-one, div-div-eq-div-mul, mul_comm, mod-lt}
+use native.Mathlib.Nat.{pow-zero, pow-suc, pow-succ', one-le-pow, div-one, div-div-eq-div-mul, mod-lt}
 use lib.ListN.{length}
 use lib.Arith.{mod-mul, digits_div, digits_mod}
-use lib.Pow.{pow-add}
 
 unfoldable pub column : (ℕ → ℕ) → ℕ → ℕ → ℕ → List ℕ
 column f b zero v = []
@@ -16,16 +15,6 @@ pub length_column : (f : ℕ → ℕ) (b n v : ℕ) → length (column f b n v) 
 unfolding column
 length_column f b zero v = refl
 length_column f b (suc n) v = ap suc (length_column f b n v)
-
--- a quotient by one power, and then by another
-div_pow : (b n m v : ℕ) → v / b ^ (n + m) ≡ v / b ^ m / b ^ n
-div_pow b n m v = ap (λ (x : ℕ). v / x) (pow-add b n m ∙ mul_comm (b ^ n) (b ^ m)) ∙ sym (div-div-eq-div-mul v (b ^ m) (b ^ n))
-
--- the upper n places, and the lower m
-pub column_split : (f : ℕ → ℕ) (b n m v : ℕ) → column f b (n + m) v ≡ column f b n (v / b ^ m) ++ column f b m v
-unfolding column
-column_split f b zero m v = rw zero-add
-column_split f b (suc n) m v = rw (suc-add n m) (rw (div_pow b n m v, column_split f b n m v))
 
 -- the last place by itself
 pub column_last : (f : ℕ → ℕ) (b n v : ℕ) → column f b (suc n) v ≡ column f b n (v / b) ++ (f (v % b) ∷ [])

@@ -1,7 +1,8 @@
 -- A loop that lays a number from its last place down to its first. Assumes nothing.
-use Prim.Native.Nat.{ℕ, zero, suc, ◌+◌, ◌-◌, ◌/◌, ◌%◌, ◌≤◌, ◌<◌}
-use mathlib.Core.Path.{◌≡◌, refl, sym, ap, ◌∙◌}
+use Prim.Native.Nat.{ℕ, zero, suc, ◌+◌, ◌-◌, ◌/◌, ◌%◌, ◌^◌, ◌≤◌, ◌<◌}
+use mathlib.Core.Path.{◌≡◌, sym, ap, ◌∙◌}
 use mathlib.Core.List.{List}
+use native.Mathlib.Nat.{pow-zero, div-one, mod-eq_of_lt}
 use native.Mathlib.Omega.{arith}
 use lib.ListN.{length, set, length-set}
 use lib.Seq.{sets}
@@ -14,9 +15,6 @@ pub record Down (f : ℕ → ℕ) (b : ℕ) (old : List ℕ) (at n v : ℕ) (new
   pub few : left ≤ n
   pub same : length new ≡ length old
   pub bytes : sets new at (column f b left rest) ≡ sets old at (column f b n v)
-
-pub down_start : (f : ℕ → ℕ) (b : ℕ) (old : List ℕ) (at n v : ℕ) → Down f b old at n v old n v
-down_start f b old at n v = record { few = omega arith; same = refl; bytes = refl }
 
 lay_last : (f : ℕ → ℕ) (b : ℕ) (l : List ℕ) (at left rest : ℕ) → 0 < left → sets (set l (at + (left - 1)) (f (rest % b))) at (column f b (left - 1) (rest / b)) ≡ sets l at (column f b left rest)
 lay_last f b l at zero rest h = absurd (omega arith)
@@ -33,6 +31,17 @@ down_turn {f} {b} {old} {at} {n} {v} {new} {left} {rest} h d = record {
   same = length-set new (at + (left - 1)) (f (rest % b)) ∙ d.same;
   bytes = lay_last f b new at left rest h ∙ d.bytes;
 }
+
+-- the first place by itself: it is what is left, where that is one digit
+pub down_first : {f : ℕ → ℕ} {b : ℕ} {old : List ℕ} {at n v : ℕ} {new : List ℕ} {left rest : ℕ} → left ≡ 1 → rest < b → Down f b old at n v new left rest → Laid old at (column f b n v) (set new at (f rest)) (at + n)
+unfolding column
+down_first {f} {b} {old} {at} {n} {v} {new} {left} {rest} e h d = record {
+  place = ap (λ (k : ℕ). at + k) (sym (length_column f b n v));
+  bytes = rw (← first rest h) (rw e at d.bytes);
+}
+  where
+    first : (x : ℕ) → x < b → f (x / b ^ 0 % b) ≡ f x
+    first x l = rw (pow-zero b, div-one x, mod-eq_of_lt l)
 
 pub down_end : {f : ℕ → ℕ} {b : ℕ} {old : List ℕ} {at n v : ℕ} {new : List ℕ} {left rest : ℕ} → left ≡ 0 → Down f b old at n v new left rest → Laid old at (column f b n v) new (at + n)
 unfolding column

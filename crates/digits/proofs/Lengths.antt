@@ -26,35 +26,35 @@ pub length_spaced : (v : ℕ) → v < 100 → length (spaced v) ≡ 2
 length_spaced v h = go (dec_lt v 10)
   where
     go : Dec (v < 10) → length (spaced v) ≡ 2
-    go (yes l) = omega (arith, ap length (spaced_one v l), length_exact 0 v (omega arith) l)
-    go (no l) = ap length (spaced_two v (omega (arith, l))) ∙ length_exact 1 v (omega arith) h
+    go (yes l) = omega (arith, ap length (spaced_one v l), length_exact 0 v l)
+    go (no l) = ap length (spaced_two v (omega (arith, l))) ∙ length_exact 1 v h
 
 -- a year from -9999 to 9999
 pub length_year : (k y : ℕ) → k ≤ 4 → 30001 ≤ y → y ≤ 49999 → length (signed_year k y) ≤ 5
 length_year k y l low high = go (dec_lt y 40000)
   where
     go : Dec (y < 40000) → length (signed_year k y) ≤ 5
-    go (yes h) = omega (arith, ap length (year_minus k y h), length_most k 3 (40000 - y) (omega arith) l (omega arith))
-    go (no h) = omega (arith, ap length (year_plain k y (omega (arith, h))), length_exact 3 (y - 40000) (omega arith) (omega arith))
+    go (yes h) = omega (arith, ap length (year_minus k y h), length_most k 3 (40000 - y) l (omega arith))
+    go (no h) = omega (arith, ap length (year_plain k y (omega (arith, h))), length_exact 3 (y - 40000) (omega arith))
 
 pub length_short : (y : ℕ) → length (year_short y) ≤ 3
 length_short y = go (dec_lt y 40000) (ℕ_discrete ((40000 - y) % 100) 0)
   where
     go : Dec (y < 40000) → Dec ((40000 - y) % 100 ≡ 0) → length (year_short y) ≤ 3
-    go (no h) d = omega (arith, ap length (short_plain y (omega (arith, h))), length_exact 1 ((y - 40000) % 100) (omega arith) (omega arith))
-    go (yes h) (yes z) = omega (arith, ap length (short_century y h z), length_exact 1 0 (omega arith) (omega arith))
-    go (yes h) (no z) = omega (arith, ap length (short_minus y h z), length_most 1 1 ((40000 - y) % 100) (omega arith) (omega arith) (omega arith))
+    go (no h) d = omega (arith, ap length (short_plain y (omega (arith, h))), length_exact 1 ((y - 40000) % 100) (omega arith))
+    go (yes h) (yes z) = omega (arith, ap length (short_century y h z), length_exact 1 0 (omega arith))
+    go (yes h) (no z) = omega (arith, ap length (short_minus y h z), length_most 1 1 ((40000 - y) % 100) (omega arith) (omega arith))
 
 -- ---- seconds of a time of day
 pub length_second : (x : Float) → in_minute x ≡ true → length (three_decimals 2 x) ≡ 6
 length_second x h =
     let t = decimals 3 x in
-    omega (arith, ap length (three_is 2 x t refl), length-append (wide 2 (t / 1000)) (46 ∷ places 3 t), length_exact 1 (t / 1000) (omega arith) (omega (arith, minute_thousandths x h)), length_places 3 t)
+    omega (arith, ap length (three_is 2 x t refl), length-append (wide 2 (t / 1000)) (46 ∷ places 3 t), length_exact 1 (t / 1000) (omega (arith, minute_thousandths x h)), length_places 3 t)
 
 -- ---- the seconds since the Unix epoch, in range
 module _ (t : ℕ) (low : instant 0 ≤ t) (high : t ≤ last) where
   few_thousandths : (d : ℕ) → d ≡ decimals 3 (unix_real t) → length (wide 1 (d / 1000)) ≤ 12
-  few_thousandths d e = length_most 1 11 (d / 1000) (omega arith) (omega arith) (omega (arith, unix_thousandths t low high))
+  few_thousandths d e = length_most 1 11 (d / 1000) (omega arith) (omega (arith, unix_thousandths t low high))
 
   pub length_decimals : length (unix_decimals t) ≤ 17
   length_decimals = go (decimals 3 (unix_real t)) refl (dec_lt t unix_epoch)
@@ -75,8 +75,8 @@ module _ (t : ℕ) (low : instant 0 ≤ t) (high : t ≤ last) where
   length_seconds = go (unix_seconds t) few_seconds
     where
       go : (z : ℤ) → nat_abs z < 10 ^ 12 → length (integer_text z) ≤ 13
-      go (pos n) h = unfold integer_text in omega (arith, length_most 1 11 n (omega arith) (omega arith) h)
-      go (negsuc n) h = unfold integer_text in omega (arith, length_most 1 11 (suc n) (omega arith) (omega arith) h)
+      go (pos n) h = unfold integer_text in omega (arith, length_most 1 11 n (omega arith) h)
+      go (negsuc n) h = unfold integer_text in omega (arith, length_most 1 11 (suc n) (omega arith) h)
 
 -- ---- the Julian day
 pub length_trim : (f : ℕ → Bool) (s : List ℕ) → length (trim_end f s) ≤ length s
@@ -94,4 +94,4 @@ length_julian t low high =
     let n = decimals 9 (julian_real t) in
     let w = wide 1 (n / 1000000000) in
     let s = w ++ (46 ∷ []) ++ places 9 n in
-    omega (arith, length_trim (is ".") (trim_end (is "0") s), length_trim (is "0") s, length-append (w ++ (46 ∷ [])) (places 9 n), length-append w (46 ∷ []), length_places 9 n, length_most 1 6 (n / 1000000000) (omega arith) (omega arith) (omega (arith, julian_billionths t low high)))
+    omega (arith, length_trim (is ".") (trim_end (is "0") s), length_trim (is "0") s, length-append (w ++ (46 ∷ [])) (places 9 n), length-append w (46 ∷ []), length_places 9 n, length_most 1 6 (n / 1000000000) (omega arith) (omega (arith, julian_billionths t low high)))

@@ -3,14 +3,17 @@ use Prim.Native.Nat.{ℕ, zero, suc, ◌+◌, ◌-◌, ◌/◌, ◌%◌, ◌<◌
 use mathlib.Core.Bool.{Bool, true, false, ◌&&◌}
 use mathlib.Core.Path.{◌≡◌, refl, sym, ap, ◌∙◌}
 use mathlib.Core.List.{List, [], ◌∷◌, ◌++◌, append_assoc}
+use native.Mathlib.Decide.{ℕ_discrete}
 use native.Mathlib.Omega.{arith}
 use borrow.Author.Tests.{eq-eqb, ne_eqb}
 use lib.ListN.{length}
 use Rattle.rules.specs.Basics.{is, every, trim_end}
 use Rattle.rules.specs.Floats.{decimals}
 use Rattle.rules.specs.Writing.{places, wide, julian_real, julian_text}
+use Rattle.digits.specs.Writers.{Room, Trimmed}
+use Rattle.digits.proofs.Buffer.{room_first, room_as}
 use Rattle.digits.proofs.Columns.{column_last}
-use Rattle.digits.proofs.Decimal.{digit, places_are, wide_length, length_wide}
+use Rattle.digits.proofs.Decimal.{digit, places_are, places_low, wide_length, wide_some}
 
 module _ (f : ℕ → Bool) where
   -- a byte that stays ends what is dropped before it
@@ -58,7 +61,7 @@ unfolding trim_end
 trim_end_lem zero v h n = absurd (omega arith)
 trim_end_lem (suc k) v h n = rw (places_last k v) (sym (trim_after (is "0") (places k (v / 10)) (48 + v % 10) [] (ne_eqb 48 (48 + v % 10) (λ e. n (omega arith)))))
 
-pub trim_none : (k v : ℕ) → k ≡ 0 → places k v ≡ zeroes (places k v)
+pub trim_none : (k v : ℕ) → k ≡ 0 → places 0 0 ≡ zeroes (places k v)
 unfolding places trim_end
 trim_none k v e = rw e
 
@@ -73,20 +76,28 @@ points s (suc k) v h =
     rw e (trim_after (is ".") (s ++ places k (v / 10)) d [] (ne_eqb 46 d (λ z. omega arith)))
 
 points_wide : (v : ℕ) → trim_end (is ".") (wide 1 v) ≡ wide 1 v
-points_wide v = let l : 0 < length (wide 1 v) = omega (arith, length_wide 1 v) in rw (← wide_length 1 v) (points [] (length (wide 1 v)) v l)
+points_wide v = rw (← wide_length 1 v) (points [] (length (wide 1 v)) v (wide_some 1 v))
 
-module _ (t n k v : ℕ) (e : n ≡ decimals 9 (julian_real t)) (z : places k v ≡ zeroes (places 9 n)) where
+module _ (t n : ℕ) (left : ℕ × ℕ) (e : n ≡ decimals 9 (julian_real t)) (q : Trimmed (n % 1000000000) left) where
   whole : List ℕ
   whole = wide 1 (n / 1000000000)
 
-  trimmed : julian_text t ≡ trim_end (is ".") (whole ++ (46 ∷ places k v))
+  trimmed : julian_text t ≡ trim_end (is ".") (whole ++ (46 ∷ places left.0 left.1))
   unfolding julian_text whole
-  trimmed = rw (← e, append_assoc (wide 1 (n / 1000000000)) (46 ∷ []) (places 9 n), trim_after (is "0") (wide 1 (n / 1000000000)) 46 (places 9 n) refl, z)
+  trimmed = rw (← e, append_assoc (wide 1 (n / 1000000000)) (46 ∷ []) (places 9 n), trim_after (is "0") (wide 1 (n / 1000000000)) 46 (places 9 n) refl, places_low 9 n, q.shows)
 
-  pub julian_whole : k ≡ 0 → julian_text t ≡ wide 1 (n / 1000000000)
+  pub julian_whole : left.0 ≡ 0 → julian_text t ≡ wide 1 (n / 1000000000)
   unfolding whole places
   julian_whole h = trimmed ∙ rw h (trim_drop (is ".") whole 46 refl ∙ points_wide (n / 1000000000))
 
-  pub julian_point : 0 < k → julian_text t ≡ (wide 1 (n / 1000000000) ++ (46 ∷ [])) ++ places k v
+  pub julian_point : 0 < left.0 → julian_text t ≡ wide 1 (n / 1000000000) ++ (46 ∷ places left.0 left.1)
   unfolding whole
-  julian_point h = trimmed ∙ rw (← append_assoc whole (46 ∷ []) (places k v)) (points (whole ++ (46 ∷ [])) k v h)
+  julian_point h = trimmed ∙ rw (← append_assoc whole (46 ∷ []) (places left.0 left.1)) (points (whole ++ (46 ∷ [])) left.0 left.1 h)
+
+  -- and room for its whole days
+  pub julian_room : {a : List ℕ} {at : ℕ} → Room a at (julian_text t) → Room a at (wide 1 (n / 1000000000))
+  julian_room {a} {at} h = go (ℕ_discrete left.0 0)
+    where
+      go : Dec (left.0 ≡ 0) → Room a at (wide 1 (n / 1000000000))
+      go (yes z) = room_as (julian_whole z) h
+      go (no k) = room_first _ _ (room_as (julian_point (omega (arith, k))) h)

@@ -4,19 +4,21 @@
 // lays the text there, leaves every other byte as it was, and returns the place after the text. The texts are those of rules. How long
 // a text will be is told by a `.._length` beside its writer, where the length isn't plain.
 //
+// The buffer and the place are two arguments, and a writer returns the next place: a struct that held both would need, in each contract,
+// one more clause, that it still holds the same reference.
+//
 // Years are held as rules holds them: 2024 as 42024.
 #![tactic(auto)]
 
-ghost use Rattle.std.specs.Prelude.{◌≡◌, [], ◌∷◌, ◌+◌, ◌≤◌, ◌<◌, true, not, T, nat_abs, length};
+ghost use Rattle.std.specs.Prelude.{◌≡◌, [], ◌∷◌, ◌+◌, ◌≤◌, ◌<◌, ◌^◌, true, not, T, length};
 ghost use Rattle.std.specs.Float.{binary64};
 ghost use Rattle.std.specs.Float.Ieee.{is_nan, to_bits};
-ghost use Rattle.rules.specs.Basics.{is, trim_end};
 ghost use Rattle.rules.specs.Calendar.{instant, last};
 ghost use Rattle.rules.specs.Floats.{decimals};
 ghost use Rattle.rules.specs.Program.{hex};
 ghost use Rattle.rules.specs.Writing as text;
 ghost use Rattle.real.specs.InMinute.{in_minute};
-ghost use Rattle.digits.specs.Writers.{Room, Laid, hex_digit, unix_decimals};
+ghost use Rattle.digits.specs.Writers.{Room, Laid, Trimmed, hex_digit, unix_decimals};
 
 // One byte.
 pub fn put_byte(buf: &mut [u8], at: usize, b: u8) -> usize
@@ -27,25 +29,24 @@ pub fn put_byte(buf: &mut [u8], at: usize, b: u8) -> usize
     at + 1
 }
 
-// One digit, for a number below 10.
-pub fn put_one(buf: &mut [u8], at: usize, v: u32) -> usize
-    requires few_digits { v < 10 }
-    requires room { Room buf.old at (text.wide 1 v) }
-    ensures { Laid buf.old at (text.wide 1 v) buf.new result }
+// Some bytes.
+pub fn put_bytes(buf: &mut [u8], at: usize, s: &[u8]) -> usize
+    requires { Room buf.old at s.now }
+    ensures { Laid buf.old at s.now buf.new result }
 {
-    buf[at] = (48 + v) as u8;
-    at + 1
+    let after = at + s.len();
+    buf[at..after].copy_from_slice(s);
+    after
 }
 
-// Two digits, for a number below 100.
-pub fn put_two(buf: &mut [u8], at: usize, v: u32) -> usize
-    requires few_digits { v < 100 }
-    requires room { Room buf.old at (text.wide 2 v) }
-    ensures { Laid buf.old at (text.wide 2 v) buf.new result }
+// A number in N digits, with zeros before it where it has fewer.
+pub fn put_digits<const N: usize>(buf: &mut [u8], at: usize, v: u32) -> usize
+    requires some_digits { 0 < N }
+    requires few_digits { v < 10 ^ N }
+    requires room { Room buf.old at (text.wide N v) }
+    ensures { Laid buf.old at (text.wide N v) buf.new result }
 {
-    buf[at] = (48 + v / 10) as u8;
-    buf[at + 1] = (48 + v % 10) as u8;
-    at + 2
+    put_places(buf, at, N, v as u64)
 }
 
 // A byte and two digits, as `-05` or `:07`.
@@ -55,63 +56,37 @@ pub fn put_next(buf: &mut [u8], at: usize, b: u8, v: u32) -> usize
     ensures { Laid buf.old at (b ∷ text.wide 2 v) buf.new result }
 {
     let digits = put_byte(buf, at, b);
-    put_two(buf, digits, v)
+    put_digits::<2>(buf, digits, v)
 }
 
-// Three digits, for a number below 1000.
-pub fn put_three(buf: &mut [u8], at: usize, v: u32) -> usize
-    requires few_digits { v < 1000 }
-    requires room { Room buf.old at (text.wide 3 v) }
-    ensures { Laid buf.old at (text.wide 3 v) buf.new result }
+// A number in n decimal places: the last is laid first, and the first is what is left then.
+fn put_places(buf: &mut [u8], at: usize, n: usize, v: u64) -> usize
+    requires some_places { 0 < n }
+    requires few_places { v < 10 ^ n }
+    requires room { Room buf.old at (text.places n v) }
+    ensures { Laid buf.old at (text.places n v) buf.new result }
 {
-    let rest = put_one(buf, at, v / 100);
-    put_two(buf, rest, v % 100)
+    let mut rest = v;
+    for i in (1..n).rev() {
+        buf[at + i] = (48 + rest % 10) as u8;
+        rest /= 10;
+    }
+    buf[at] = (48 + rest) as u8;
+    at + n
 }
 
-// Four digits, for a number below 10000.
-pub fn put_four(buf: &mut [u8], at: usize, v: u32) -> usize
-    requires few_digits { v < 10000 }
-    requires room { Room buf.old at (text.wide 4 v) }
-    ensures { Laid buf.old at (text.wide 4 v) buf.new result }
-{
-    let rest = put_two(buf, at, v / 100);
-    put_two(buf, rest, v % 100)
-}
-
-// How many digits v has.
+// How many digits a number has: 0 has one.
 fn width(v: u64) -> usize
     ensures { (result ≡ text.width 19 v) × (result ≤ 20) }
 {
-    let mut n = 1;
-    let mut rest = v;
-    while rest >= 10 {
-        rest /= 10;
-        n += 1;
-    }
-    n
-}
-
-// The n lowest decimal places of v, the last first.
-fn put_places(buf: &mut [u8], at: usize, n: usize, v: u64) -> usize
-    requires { Room buf.old at (text.places n v) }
-    ensures { Laid buf.old at (text.places n v) buf.new result }
-{
-    let mut left = n;
-    let mut rest = v;
-    while left > 0 {
-        left -= 1;
-        buf[at + left] = (48 + rest % 10) as u8;
-        rest /= 10;
-    }
-    at + n
+    v.max(1).ilog10() as usize + 1
 }
 
 // How many bytes `put_number` takes.
 pub fn number_length(least: usize, v: u64) -> usize
     ensures { (result ≡ length (text.wide least v)) × (result ≤ least + 20) }
 {
-    let n = width(v);
-    if n < least { least } else { n }
+    width(v).max(least)
 }
 
 // A number in `least` digits, or in as many as it has.
@@ -131,22 +106,15 @@ fn put_minus(buf: &mut [u8], at: usize, least: usize, v: u64) -> usize
     put_number(buf, digits, least, v)
 }
 
-// A number without its sign.
-fn magnitude(n: i64) -> u64
-    ensures { result ≡ nat_abs n }
-{
-    if n < 0 { (-1 - n) as u64 + 1 } else { n as u64 }
-}
-
 // A number with its sign, which is a minus or nothing.
 pub fn put_integer(buf: &mut [u8], at: usize, n: i64) -> usize
     requires { Room buf.old at (text.integer_text n) }
     ensures { Laid buf.old at (text.integer_text n) buf.new result }
 {
     if n < 0 {
-        return put_minus(buf, at, 1, magnitude(n));
+        return put_minus(buf, at, 1, n.unsigned_abs());
     }
-    put_number(buf, at, 1, magnitude(n))
+    put_number(buf, at, 1, n.unsigned_abs())
 }
 
 // How many bytes `put_integer` takes.
@@ -154,9 +122,31 @@ pub fn integer_length(n: i64) -> usize
     ensures { result ≡ length (text.integer_text n) }
 {
     if n < 0 {
-        return 1 + number_length(1, magnitude(n));
+        return 1 + number_length(1, n.unsigned_abs());
     }
-    number_length(1, magnitude(n))
+    number_length(1, n.unsigned_abs())
+}
+
+// An f64 as the 16 hexadecimal digits of its bits, "highest first".
+pub fn put_hex(buf: &mut [u8], at: usize, x: f64) -> usize
+    requires not_nan { T (not (is_nan x)) }
+    requires room { Room buf.old at (hex 16 (to_bits binary64 x)) }
+    ensures { Laid buf.old at (hex 16 (to_bits binary64 x)) buf.new result }
+{
+    put_hex_digits(buf, at, 16, x.to_bits())
+}
+
+// The n lowest hexadecimal digits of a number, small letters: the last is laid first.
+pub fn put_hex_digits(buf: &mut [u8], at: usize, n: usize, v: u64) -> usize
+    requires { Room buf.old at (hex n v) }
+    ensures { Laid buf.old at (hex n v) buf.new result }
+{
+    let mut rest = v;
+    for i in (0..n).rev() {
+        buf[at + i] = hex_digit(rest % 16);
+        rest /= 16;
+    }
+    at + n
 }
 
 // One of 0 to 9 and a to f.
@@ -171,22 +161,6 @@ fn hex_digit(d: u64) -> u8
     }
 }
 
-// An f64 as the 16 hexadecimal digits of its bits, "highest first".
-pub fn put_hex(buf: &mut [u8], at: usize, x: f64) -> usize
-    requires not_nan { T (not (is_nan x)) }
-    requires room { Room buf.old at (hex 16 (to_bits binary64 x)) }
-    ensures { Laid buf.old at (hex 16 (to_bits binary64 x)) buf.new result }
-{
-    let mut left = 16;
-    let mut rest = f64::to_bits(x);
-    while left > 0 {
-        left -= 1;
-        buf[at + left] = hex_digit(rest % 16);
-        rest /= 16;
-    }
-    at + 16
-}
-
 // A number below 100 in two places, with a space for a leading zero.
 pub fn put_spaced(buf: &mut [u8], at: usize, v: u32) -> usize
     requires few_digits { v < 100 }
@@ -195,9 +169,9 @@ pub fn put_spaced(buf: &mut [u8], at: usize, v: u32) -> usize
 {
     if v < 10 {
         let digits = put_byte(buf, at, b' ');
-        return put_one(buf, digits, v);
+        return put_digits::<1>(buf, digits, v);
     }
-    put_two(buf, at, v)
+    put_digits::<2>(buf, at, v)
 }
 
 // The year 0, as it is held.
@@ -210,7 +184,7 @@ pub fn put_year(buf: &mut [u8], at: usize, k: usize, year: u32) -> usize
     ensures { Laid buf.old at (text.signed_year k year) buf.new result }
 {
     if year >= YEAR_0 {
-        return put_four(buf, at, year - YEAR_0);
+        return put_digits::<4>(buf, at, year - YEAR_0);
     }
     put_minus(buf, at, k, (YEAR_0 - year) as u64)
 }
@@ -233,11 +207,11 @@ pub fn put_short_year(buf: &mut [u8], at: usize, year: u32) -> usize
     ensures { Laid buf.old at (text.year_short year) buf.new result }
 {
     if year >= YEAR_0 {
-        return put_two(buf, at, (year - YEAR_0) % 100);
+        return put_digits::<2>(buf, at, (year - YEAR_0) % 100);
     }
     let back = (YEAR_0 - year) % 100;
     if back == 0 {
-        return put_two(buf, at, 0);
+        return put_digits::<2>(buf, at, 0);
     }
     put_minus(buf, at, 1, back as u64)
 }
@@ -262,7 +236,7 @@ pub fn put_point(buf: &mut [u8], at: usize, t: u64) -> usize
     ensures { Laid buf.old at (46 ∷ text.places 3 t) buf.new result }
 {
     let digits = put_byte(buf, at, b'.');
-    put_three(buf, digits, (t % 1000) as u32)
+    put_digits::<3>(buf, digits, (t % 1000) as u32)
 }
 
 // The seconds of a time of day, cut to whole ones, in two digits.
@@ -271,7 +245,7 @@ pub fn put_second(buf: &mut [u8], at: usize, second: f64) -> usize
     requires room { Room buf.old at (text.second_text second) }
     ensures { Laid buf.old at (text.second_text second) buf.new result }
 {
-    put_two(buf, at, real::whole(second) as u32)
+    put_digits::<2>(buf, at, real::whole(second) as u32)
 }
 
 // The seconds of a time of day: "three decimals of the f64, ties to even".
@@ -281,14 +255,14 @@ pub fn put_second_decimals(buf: &mut [u8], at: usize, second: f64) -> usize
     ensures { Laid buf.old at (text.three_decimals 2 second) buf.new result }
 {
     let t = real::thousandths(second);
-    let point = put_two(buf, at, (t / 1000) as u32);
+    let point = put_digits::<2>(buf, at, (t / 1000) as u32);
     put_point(buf, point, t)
 }
 
 // The Unix epoch, as it is held.
 const UNIX_EPOCH: u64 = 9223582903614775808;
 
-// The seconds since the Unix epoch, as an f64, in thousandths and without their sign.
+// The seconds since the Unix epoch, as an f64, in thousandths and without their sign. The bounds are clauses, as in crate real.
 fn unix_thousandths(ms: u64) -> u64
     requires not_before { instant 0 ≤ ms }
     requires not_after { ms ≤ last }
@@ -327,27 +301,19 @@ pub fn unix_decimals_length(ms: u64) -> usize
     whole + 4
 }
 
-// Some decimal places: `count` of them, which show `value`.
-#[derive(Clone, Copy)]
-struct Places {
-    count: usize,
-    value: u64,
-}
-
-// The nine lowest decimal places of a number, "trailing zeros .. dropped".
-fn trimmed(n: u64) -> Places
-    ensures { (text.places result.count result.value ≡ trim_end (is "0") (text.places 9 n)) × (result.count ≤ 9) }
+// The nine decimal places of a number of billionths, "trailing zeros .. dropped": how many are left, and what they show.
+fn trimmed(n: u64) -> (usize, u64)
+    requires { n < 10 ^ 9 }
+    ensures { Trimmed n result }
 {
-    let mut count = 9;
     let mut value = n;
-    while count > 0 {
+    for count in (1..10).rev() {
         if value % 10 != 0 {
-            return Places { count, value };
+            return (count, value);
         }
         value /= 10;
-        count -= 1;
     }
-    Places { count, value }
+    (0, 0)
 }
 
 // The Julian day, as an f64, in units of 10^-9.
@@ -367,13 +333,13 @@ pub fn put_julian(buf: &mut [u8], at: usize, ms: u64) -> usize
     ensures { Laid buf.old at (text.julian_text ms) buf.new result }
 {
     let n = julian_billionths(ms);
-    let fraction = trimmed(n);
-    if fraction.count == 0 {
-        return put_number(buf, at, 1, n / 1000000000);
-    }
+    let (count, fraction) = trimmed(n % 1000000000);
     let point = put_number(buf, at, 1, n / 1000000000);
+    if count == 0 {
+        return point;
+    }
     let digits = put_byte(buf, point, b'.');
-    put_places(buf, digits, fraction.count, fraction.value)
+    put_places(buf, digits, count, fraction)
 }
 
 // How many bytes `put_julian` takes.
@@ -384,9 +350,9 @@ pub fn julian_length(ms: u64) -> usize
 {
     let n = julian_billionths(ms);
     let whole = number_length(1, n / 1000000000);
-    let fraction = trimmed(n);
-    if fraction.count == 0 {
+    let (count, _) = trimmed(n % 1000000000);
+    if count == 0 {
         return whole;
     }
-    whole + 1 + fraction.count
+    whole + 1 + count
 }

@@ -3,72 +3,55 @@ use mathlib.Core.Bool.{Bool, true, false, ◌&&◌}
 use Rattle.std.specs.Prelude.{if◌then◌else◌}
 use mathlib.Core.List.{List, [], ◌∷◌}
 use mathlib.Core.Path.{◌≡◌, refl, sym, ap, ◌∙◌, subst}
-use Prim.Native.Nat.{ℕ, ◌+◌, ◌-◌, ◌*◌, ◌%◌, ◌^◌, ◌≤◌, ◌<◌}
+use Prim.Native.Nat.{ℕ, ◌+◌, ◌-◌, ◌*◌, ◌/◌, ◌%◌, ◌≤◌, ◌<◌}
 use native.Mathlib.Omega.{arith}
 use borrow.Author.Tests.{leb-true}
 use lib.Dec.{eqb, leb, ltb}
-use lib.IntN.{ℤ}
 use lib.Ieee.{Float, of_int, round, le}
-use Rattle.rules.specs.Basics.{move}
 use Rattle.rules.specs.Calendar.{year, instant, last, in_range, midnight, civil}
-use Rattle.rules.specs.Floats.{number}
+use Rattle.rules.specs.Floats.{number, ◌⊘◌}
 use Rattle.rules.specs.Functions.{renewed}
-use Rattle.rules.specs.Moments.{Moment, blank, failure, no_zone, counted, clear, set_date, set_dated, set_time, set_timed, set_zone, set_raw, set_subsec, set_utc, set_local, set_counted, set_over, moved, time_ms, with_time, sum_of, count_ms, fill_date, on_time, fill_time, fill, past_end, shift}
-use Rattle.rules.specs.Modifiers.{signed, nearest_ms, at_ms}
-use Rattle.rules.specs.Reading.{timed, settled, now, is_julian, raw_number}
-use Rattle.rules.specs.declared.Time.{Time}
+use Rattle.rules.specs.Moments.{Moment, blank, failure, no_zone, counted, clear, set_date, set_dated, set_time, set_timed, set_zone, set_raw, set_counted, set_over, time_ms, with_time, sum_of, count_ms, fill_date, on_time, fill_time, fill}
 use Rattle.calendar.specs.Ranges.{MonthDay, Countable, InRange}
 use Rattle.calendar.proofs.Counting.{countable}
 use Rattle.calendar.proofs.Instants.{start_is, date_of_lem, time_high}
-use Rattle.calendar.proofs.Years.{days_high, month_low}
+use Rattle.calendar.proofs.Years.{days_high}
 use Rattle.real.specs.InMinute.{in_minute}
-use Rattle.real.specs.StepMost.{step_most}
 use Rattle.real.proofs.Tests.{and_right}
 use Rattle.real.proofs.Seconds.{minute_ms, filled_minute}
-use Rattle.real.proofs.Epoch.{julian_ms_lem}
-use Rattle.moment.specs.Ranges.{sum_takes, TimeIn, TimeRead, Sane, ReadYear, Near, After, most_before, Ranged, Full}
+use Rattle.moment.specs.Ranges.{sum_takes, TimeIn, Sane, ReadYear, Near, After, Ranged, Full}
 use Rattle.moment.specs.Steps.{first_of_month, first_of_year}
 use Rattle.moment.proofs.Branches.{never, either, by_test}
 use Rattle.moment.proofs.Steps.{taken, already, in_range_lem, count_cases, date_cases, time_cases}
-use Rattle.moment.proofs.Ways.{move_back}
 
 -- ---- how far from the millisecond 0
 
 pub near_more : (m n t : ℕ) → m ≤ n → Near m t → Near n t
 near_more m n t h k = omega arith
 
--- "With 16 modifiers the milliseconds stay within 64 bits": before the last there is room for one more step either way.
-pub near_room : (t k : ℕ) → Near most_before t → k ≤ step_most → (k < t) × (t + k < 2 ^ 64)
-near_room t k h l = omega arith
-
-pub near_moved : (n t k : ℕ) (b : Bool) → k ≤ step_most → Near n t → Near (n + 1) (move t (signed b k) 1)
-near_moved n t k false h a = omega arith
-near_moved n t k true h a = rw (move_back t k 1) (omega arith)
-
 pub after_more : (m n : ℕ) (p : Moment) → m ≤ n → After m p → After n p
 after_more m n p h a = record { sane = a.sane; years = a.years; near = near_more m n p.ms h a.near }
 
--- ---- a step from p to q that keeps the ranges
-pub record Kept (p q : Moment) : Type 0 where
-  pub sane : Sane p → Sane q
-  pub after : (n : ℕ) → After n p → After n q
+-- ---- a step from p to q that goes no further
+abbrev pub Kept : Moment → Moment → Type 0
+Kept p q = (n : ℕ) → After n p → After n q
 
 abbrev Years : Moment → Type 0
 Years p = p.dated ≡ true → ReadYear p.year
 
 -- field by field: what stays is λ s. s
 kept : (p q : Moment) → (Sane p → Sane q) → (Years p → Years q) → ((n : ℕ) → Near n p.ms → Near n q.ms) → Kept p q
-kept p q s y t = record { sane = s; after = λ n a. record { sane = s a.sane; years = y a.years; near = t n a.near } }
+kept p q s y t n a = record { sane = s a.sane; years = y a.years; near = t n a.near }
 
-pub kept_same : (p : Moment) → Kept p p
-kept_same p = record { sane = λ s. s; after = λ n a. a }
+kept_same : (p : Moment) → Kept p p
+kept_same p n a = a
 
 kept_then : (p q r : Moment) → Kept p q → Kept q r → Kept p r
-kept_then p q r k l = record { sane = λ s. l.sane (k.sane s); after = λ n a. l.after n (k.after n a) }
+kept_then p q r k l n a = l n (k n a)
 
 -- a record anew
 kept_new : (p q : Moment) → (Sane p → After 0 q) → Kept p q
-kept_new p q h = record { sane = λ s. (h s).sane; after = λ n a. after_more 0 n q (omega arith) (h a.sane) }
+kept_new p q h n a = after_more 0 n q (omega arith) (h a.sane)
 
 -- ---- setters
 no_date : {A : Type 0} → false ≡ true → A
@@ -83,33 +66,14 @@ after_blank = record { sane = record { date = omega arith; time = no_time; overs
 after_failure : After 0 failure
 after_failure = record { sane = after_blank.sane; years = no_date; near = omega arith }
 
-pub clear_kept : (p : Moment) → Kept p (clear p)
-clear_kept p = kept p (clear p) (λ s. record { date = s.date; time = record { hours = s.time.hours; minutes = s.time.minutes; seconds = no_date; zone_low = omega arith; zone_high = omega arith }; overs = s.overs }) (λ _. no_date) (λ n t. t)
+clear_sane : (p : Moment) → Sane p → Sane (clear p)
+clear_sane p s = record { date = s.date; time = record { hours = s.time.hours; minutes = s.time.minutes; seconds = no_date; zone_low = omega arith; zone_high = omega arith }; overs = s.overs }
 
 pub date_kept : (p : Moment) (y m d : ℕ) → ReadYear y → MonthDay m d → Kept p (set_dated (set_date p y m d) true)
 date_kept p y m d r k = kept p (set_dated (set_date p y m d) true) (λ s. record { date = k; time = s.time; overs = s.overs }) (λ _ _. r) (λ n t. t)
 
 pub undated_kept : (p : Moment) → Kept p (set_dated p false)
 undated_kept p = kept p (set_dated p false) (λ s. s) (λ _. no_date) (λ n t. t)
-
-pub over_kept : (p : Moment) → Kept p (set_over p 0)
-over_kept p = kept p (set_over p 0) (λ s. record { date = s.date; time = s.time; overs = omega arith }) (λ y. y) (λ n t. t)
-
--- flags that no range asks for
-pub utc_kept : (p : Moment) → Kept p (set_utc p)
-utc_kept p = kept p (set_utc p) (λ s. s) (λ y. y) (λ n t. t)
-
-pub local_kept : (p : Moment) → Kept p (set_local p)
-local_kept p = kept p (set_local p) (λ s. s) (λ y. y) (λ n t. t)
-
-pub subsec_kept : (p : Moment) (b : Bool) → Kept p (set_subsec p b)
-subsec_kept p b = kept p (set_subsec p b) (λ s. s) (λ y. y) (λ n t. t)
-
-pub raw_kept : (p : Moment) (b : Bool) → Kept p (set_raw p b)
-raw_kept p b = kept p (set_raw p b) (λ s. s) (λ y. y) (λ n t. t)
-
-pub counted_kept : (p : Moment) (b : Bool) → Kept p (set_counted p b)
-counted_kept p b = kept p (set_counted p b) (λ s. s) (λ y. y) (λ n t. t)
 
 -- ---- milliseconds from fields
 read_year : (y m d : ℕ) → Countable y m d → ReadYear y
@@ -145,7 +109,7 @@ sum_after p y m d s k e = by_test (λ (q : Moment). After 0 q) (sum_takes y p.ra
         (λ h.
         let day = time_most p.hour p.minute p.second s.time.hours s.time.minutes (s.time.seconds h) in
         either (λ (q : Moment). After 0 q) (eqb p.zone no_zone) _ _ (record { sane = s; years = ys; near = omega arith })
-        (record { sane = (clear_kept p).sane s; years = no_date; near = zoned p.zone _ _ s.time.zone_low s.time.zone_high bottom top day }))
+        (record { sane = clear_sane p s; years = no_date; near = zoned p.zone _ _ s.time.zone_low s.time.zone_high bottom top day }))
         (λ _. record { sane = s; years = ys; near = omega arith })
 
 -- of a record whose milliseconds do not stand
@@ -160,9 +124,6 @@ pub count_kept : (p : Moment) → Kept p (count_ms p)
 unfolding count_ms
 count_kept p = either (λ (q : Moment). Kept p q) p.counted p _ (kept_same p) (kept_new p _ (fresh p))
 
-pub settled_kept : (p : Moment) → Kept p (settled p)
-settled_kept p = either (λ (q : Moment). Kept p q) (eqb p.zone no_zone) p (count_ms p) (kept_same p) (count_kept p)
-
 -- ---- fields from milliseconds
 civil_countable : (t : ℕ) → in_range t ≡ true → Countable (civil t).year (civil t).month (civil t).day
 civil_countable t h = countable _ _ _ _ (date_of_lem t (leb-true t last (and_right (leb (instant 0) t) _ h)))
@@ -172,42 +133,16 @@ fill_date_kept p =
     date_cases (λ (q : Moment). Kept p q) p (λ _. kept_same p) (λ h. let c = civil_countable p.ms h in date_kept p _ _ _ (read_year _ _ _ c) c.fields) (λ _ _. kept_new p failure (λ _. after_failure)) (λ _. date_kept p (year 2000) 1 1 (omega arith) (omega arith))
 
 -- t milliseconds after midnight
+pub time_of : {h m zone : ℕ} {b : Bool} {x : Float} (t : ℕ) → t < 86400000 → TimeIn h m b x zone → TimeIn (t / 3600000) (t / 60000 % 60) true (number (t % 60000) ⊘ number 1000) zone
+time_of t h i = record { hours = omega arith; minutes = omega arith; seconds = λ _. filled_minute (t % 60000) (omega arith); zone_low = i.zone_low; zone_high = i.zone_high }
+
 time_kept : (p : Moment) (t : ℕ) → t < 86400000 → Kept p (on_time p t)
-time_kept p t h = kept p (on_time p t) (λ s. record { date = s.date; time = record { hours = omega arith; minutes = omega arith; seconds = λ _. filled_minute (t % 60000) (omega arith); zone_low = s.time.zone_low; zone_high = s.time.zone_high }; overs = s.overs }) (λ y. y) (λ n a. a)
+time_kept p t h = kept p (on_time p t) (λ s. record { date = s.date; time = time_of t h s.time; overs = s.overs }) (λ y. y) (λ n a. a)
 
 pub fill_time_kept : (p : Moment) → Kept p (fill_time p)
 fill_time_kept p = time_cases (λ (q : Moment). Kept p q) p (λ _. kept_same p) (kept_then p (count_ms p) _ (count_kept p) (time_kept (count_ms p) _ (time_high (count_ms p).ms)))
 
--- ---- the month's end
-pub end_kept : (p : Moment) → Kept p (past_end p)
-unfolding past_end
-end_kept p = kept p (past_end p) (λ s. record { date = s.date; time = s.time; overs = omega (arith, month_low p.year p.month s.date.month_low s.date.month_high) }) (λ y. y) (λ n t. t)
-
--- ---- what is read
-pub after_timed : (t : Time) → TimeRead t → After 0 (timed t)
-after_timed t b = either (λ (q : Moment). After 0 q) t.utc _ _ (record { sane = s; years = no_date; near = omega arith }) (record { sane = s; years = no_date; near = omega arith })
-  where
-    s : Sane (set_zone (set_timed (set_time blank t.hour t.minute t.second) true) t.zone)
-    s = record { date = omega arith; time = b; overs = omega arith }
-
-pub now_kept : (p : Moment) (clock : ℕ) → clock ≤ 253402300799999 → Kept p (now clock p)
-now_kept p clock h = kept p (now clock p) (λ s. s) (λ y. y) (λ n t. omega arith)
-
-pub after_raw : (n : Float) → After 0 (raw_number n)
-after_raw n =
-    by_test (λ (q : Moment). After 0 q) (is_julian n) _ _ (λ h. let t = julian_ms_lem n h in record { sane = s; years = no_date; near = omega arith })
-    (λ _. record { sane = s; years = no_date; near = omega arith })
-  where
-    s : Sane (set_raw (set_time blank 0 0 n) true)
-    s = record { date = omega arith; time = no_time; overs = omega arith }
-
 -- ---- the modifiers
-pub moved_after : (n : ℕ) (p : Moment) (b : Bool) (k : ℕ) → k ≤ step_most → After n p → After (n + 1) (clear (moved p (signed b k) 1))
-moved_after n p b k h a = record { sane = (clear_kept p).sane a.sane; years = no_date; near = near_moved n p.ms k b h a.near }
-
-pub at_kept : (p : Moment) (r : Float) → nearest_ms r ≤ 464269060800000 → Kept p (at_ms p r)
-at_kept p r h = kept p (at_ms p r) (λ s. (clear_kept p).sane s) (λ _. no_date) (λ n t. omega arith)
-
 -- what `day_start` makes of a date
 abbrev pub at_start : Moment → Moment
 at_start p = set_over (set_zone (set_counted (set_raw (set_timed (set_time p 0 0 (number 0)) true) false) false) no_zone) 0
@@ -216,19 +151,17 @@ pub no_seconds : in_minute (number 0) ≡ true
 unfolding of_int round le
 no_seconds = refl
 
+pub midnight_in : TimeIn 0 0 true (number 0) no_zone
+midnight_in = record { hours = omega arith; minutes = omega arith; seconds = λ _. no_seconds; zone_low = omega arith; zone_high = omega arith }
+
 pub start_kept : (p : Moment) → Kept p (at_start p)
-start_kept p = kept p (at_start p) (λ s. record { date = s.date; time = record { hours = omega arith; minutes = omega arith; seconds = λ _. no_seconds; zone_low = omega arith; zone_high = omega arith }; overs = omega arith }) (λ y. y) (λ n t. t)
+start_kept p = kept p (at_start p) (λ s. record { date = s.date; time = midnight_in; overs = omega arith }) (λ y. y) (λ n t. t)
 
 pub month_kept : (p : Moment) → Kept p (first_of_month p)
 month_kept p = kept p (first_of_month p) (λ s. record { date = record { month_low = s.date.month_low; month_high = s.date.month_high; day_low = omega arith; day_high = omega arith }; time = s.time; overs = s.overs }) (λ y. y) (λ n t. t)
 
 pub year_kept : (p : Moment) → Kept p (first_of_year p)
 year_kept p = kept p (first_of_year p) (λ s. record { date = omega arith; time = s.time; overs = s.overs }) (λ y. y) (λ n t. t)
-
--- a month shift, after which the year may lie out of range
-pub sane_shift : (p : Moment) (z : ℤ) (k : ℕ) → Sane p → Sane (shift p z k)
-unfolding shift
-sane_shift p z k s = let m = move (p.year * 12 + (p.month - 1)) z k in record { date = record { month_low = omega arith; month_high = omega arith; day_low = s.date.day_low; day_high = s.date.day_high }; time = s.time; overs = s.overs }
 
 -- before it the year lies in range
 pub fill_year : (n : ℕ) (p : Moment) → After n p → ReadYear (fill p).year
@@ -255,7 +188,7 @@ unfolding fill
 fill_full n p a r =
     let i = in_range_lem p.ms r.ranged.from r.ranged.to in
     record {
-      sane = (kept_then p (fill_date p) (fill p) (fill_date_kept p) (fill_time_kept (fill_date p))).sane a.sane;
+      sane = (kept_then p (fill_date p) (fill p) (fill_date_kept p) (fill_time_kept (fill_date p)) n a).sane;
       years = fill_year n p a;
       timed = fill_timed p;
       ranged = subst (λ (t : ℕ). InRange t) (sym (fill_ms p r.stands i)) r.ranged;
@@ -264,4 +197,4 @@ fill_full n p a r =
 pub renewed_full : (n : ℕ) (m : List ℕ) (p : Moment) → After n p → Ranged p → Full (renewed m p)
 unfolding renewed
 renewed_full n (b ∷ m) p a r = fill_full n p a r
-renewed_full n [] p a r = either (λ (q : Moment). Full (fill q)) (p.dated && ltb 28 p.day) (set_dated p false) p (fill_full n (set_dated p false) ((undated_kept p).after n a) (record { ranged = r.ranged; stands = r.stands })) (fill_full n p a r)
+renewed_full n [] p a r = either (λ (q : Moment). Full (fill q)) (p.dated && ltb 28 p.day) (set_dated p false) p (fill_full n (set_dated p false) (undated_kept p n a) (record { ranged = r.ranged; stands = r.stands })) (fill_full n p a r)

@@ -1,12 +1,10 @@
 -- What holds of a branch, whichever is picked. Assumes nothing.
 use mathlib.Core.Bool.{Bool, true, false}
 use Rattle.std.specs.Prelude.{if◌then◌else◌}
-use mathlib.Core.Path.{◌≡◌, refl, ap}
-use Prim.Native.Nat.{ℕ}
-use native.Mathlib.Omega.{arith}
+use mathlib.Core.Path.{◌≡◌, refl}
 
 pub never : {A : Type 0} → true ≡ false → A
-never h = let q : ◌≡◌ {A = ℕ} 0 1 = ap (λ (b : Bool). if b then 0 else 1) h in absurd (omega arith)
+never h = cc
 
 -- the branch that is picked
 pub branch_false : {A : Type 0} (b : Bool) (x y : A) → b ≡ false → (if b then x else y) ≡ y

@@ -4,31 +4,27 @@ use Rattle.std.specs.Prelude.{if◌then◌else◌}
 use mathlib.Core.List.{[]}
 use mathlib.Core.Path.{◌≡◌, refl, sym, ap, ◌∙◌}
 use Prim.Native.Nat.{ℕ, ◌+◌, ◌-◌, ◌*◌, ◌/◌, ◌%◌, ◌≤◌, ◌<◌}
-use native.Mathlib.Nat.{mul-one}
-use borrow.Author.Tests.{leb-true, not-true, le-leb, lt-leb, lt-ltb, le-ltb}
+use borrow.Author.Tests.{leb-true, not-true, lt-ltb, le-ltb}
 use lib.Dec.{leb, ltb}
 use lib.IntN.{ℤ, pos, neg_ℤ, ◌*ℤ◌}
-use Rattle.rules.specs.Basics.{got, refuse, move}
+use lib.Ieee.{Float}
+use Rattle.rules.specs.Basics.{got, refuse}
+use Rattle.rules.specs.Floats.{cut}
 use Rattle.rules.specs.Calendar.{instant, last, in_range, day_length}
 use Rattle.rules.specs.Functions.{ranged, renewed}
-use Rattle.rules.specs.Moments.{Moment, clear, moved, set_ms, set_date, set_counted, set_dated, set_over, set_raw, set_utc, set_local, count_ms, fill, shift}
-use Rattle.rules.specs.Modifiers.{signed, at_ms, from_epoch, is_auto, auto, julian, is_unix, unix, floor, localtime, utc, days_on, to_weekday}
+use Rattle.rules.specs.Moments.{Moment, clear, moved, set_ms, set_date, set_counted, set_dated, set_over, set_raw, set_utc, set_local, count_ms, fill, past_end, shift}
+use Rattle.rules.specs.Modifiers.{at_ms, fraction_ms, from_epoch, is_auto, auto, julian, is_unix, unix, floor, localtime, utc, days_on, to_weekday}
 use Rattle.rules.specs.declared.Refusal.{Refusal}
 use Rattle.real.proofs.Tests.{and_left, and_right}
 use Rattle.moment.specs.Ranges.{Ranged}
+use Rattle.moment.specs.Steps.{date_on, months_on}
 use Rattle.moment.proofs.Branches.{never, branch_false}
 use Rattle.moment.proofs.Steps.{count_cases}
-use Rattle.moment.proofs.Ways.{move_back, move_times, move_product, neg_signed}
+use Rattle.moment.proofs.Ways.{move_back, move_times, move_product}
 
--- ---- the milliseconds so far on or back, and the fields cleared
-abbrev pub step : Bool → ℕ → Moment → Moment
-step b n p = clear (moved p (signed b n) 1)
-
-pub step_back : (p : Moment) (b : Bool) (n : ℕ) → b ≡ true → clear (set_ms p (p.ms - n)) ≡ step b n p
-step_back p b n h = rw h (ap (λ (t : ℕ). clear (set_ms p t)) (ap (λ (m : ℕ). p.ms - m) (sym (mul-one n)) ∙ sym (move_back p.ms n 1)))
-
-pub step_on : (p : Moment) (b : Bool) (n : ℕ) → b ≡ false → clear (set_ms p (p.ms + n)) ≡ step b n p
-step_on p b n h = rw h (ap (λ (m : ℕ). clear (set_ms p (p.ms + m))) (sym (mul-one n)))
+-- ---- the milliseconds moved, and the fields cleared
+abbrev pub step : ℤ → Moment → Moment
+step z p = clear (moved p z 1)
 
 -- ---- `auto`
 pub auto_known : (p : Moment) → p.raw ≡ false → auto p ≡ set_raw p false
@@ -38,10 +34,6 @@ auto_known p h = rw h
 pub auto_day : (p : Moment) → p.raw ≡ true → p.counted ≡ true → auto p ≡ set_raw p false
 unfolding auto
 auto_day p h k = rw (h, k)
-
-pub auto_out : (p : Moment) → p.raw ≡ true → p.counted ≡ false → is_auto p.second ≡ false → auto p ≡ p
-unfolding auto
-auto_out p h k i = rw (h, k, i)
 
 pub auto_in : (p : Moment) → p.raw ≡ true → p.counted ≡ false → is_auto p.second ≡ true → auto p ≡ at_ms p (from_epoch p.second)
 unfolding auto
@@ -58,20 +50,12 @@ pub julian_day : (p : Moment) → p.counted ≡ true → p.raw ≡ true → juli
 julian_day p h k = rw (h, k)
 
 -- ---- `unixepoch`
-pub unix_known : (p : Moment) → p.raw ≡ false → unix p ≡ refuse Refusal.Null
-unfolding unix
-unix_known p h = rw h
-
-pub unix_out : (p : Moment) → p.raw ≡ true → is_unix (from_epoch p.second) ≡ false → unix p ≡ refuse Refusal.Null
-unfolding unix
-unix_out p h k = rw (h, k)
-
 pub unix_in : (p : Moment) → p.raw ≡ true → is_unix (from_epoch p.second) ≡ true → unix p ≡ got (at_ms p (from_epoch p.second))
 unfolding unix
 unix_in p h k = rw (h, k)
 
 -- ---- `floor`
-pub floor_is : (p : Moment) → set_over (step true ((count_ms p).over * day_length) (count_ms p)) 0 ≡ floor p
+pub floor_is : (p : Moment) → set_over (step (neg_ℤ (pos ((count_ms p).over * day_length))) (count_ms p)) 0 ≡ floor p
 unfolding floor
 floor_is p =
     let q = count_ms p in
@@ -82,48 +66,33 @@ pub local_stays : (z : ℤ) (p : Moment) → p.local ≡ true → localtime z p 
 unfolding localtime
 local_stays z p h = rw h
 
-pub local_is : (z : ℤ) (b : Bool) (n : ℕ) (p : Moment) → z ≡ signed b n → p.local ≡ false → set_local (step b (n * 1000) (count_ms p)) ≡ localtime z p
+pub local_is : (z : ℤ) (p : Moment) → p.local ≡ false → set_local (step (z *ℤ pos 1000) (count_ms p)) ≡ localtime z p
 unfolding localtime
-local_is z b n p e h =
+local_is z p h =
     let q = count_ms p in
-    ap (λ (t : ℕ). set_local (clear (set_ms q t))) (sym (move_times q.ms b n 1000) ∙ ap (λ (x : ℤ). move q.ms x 1000) (sym e))
-    ∙ sym (branch_false p.local p (set_local (clear (moved q z 1000))) h)
+    ap (λ (t : ℕ). set_local (clear (set_ms q t))) (sym (move_product q.ms z 1000)) ∙ sym (branch_false p.local p (set_local (clear (moved q z 1000))) h)
 
 pub utc_stays : (z : ℤ) (p : Moment) → p.utc ≡ true → utc z p ≡ p
 unfolding utc
 utc_stays z p h = rw h
 
-pub utc_is : (z : ℤ) (b : Bool) (n : ℕ) (p : Moment) → z ≡ signed b n → p.utc ≡ false → set_utc (step (not b) (n * 1000) (count_ms p)) ≡ utc z p
+pub utc_is : (z : ℤ) (p : Moment) → p.utc ≡ false → set_utc (step (neg_ℤ z *ℤ pos 1000) (count_ms p)) ≡ utc z p
 unfolding utc
-utc_is z b n p e h =
+utc_is z p h =
     let q = count_ms p in
-    ap (λ (t : ℕ). set_utc (clear (set_ms q t))) (sym (move_times q.ms (not b) n 1000) ∙ ap (λ (x : ℤ). move q.ms x 1000) (sym (ap neg_ℤ e ∙ neg_signed b n)))
-    ∙ sym (branch_false p.utc p (set_utc (clear (moved q (neg_ℤ z) 1000))) h)
+    ap (λ (t : ℕ). set_utc (clear (set_ms q t))) (sym (move_product q.ms (neg_ℤ z) 1000)) ∙ sym (branch_false p.utc p (set_utc (clear (moved q (neg_ℤ z) 1000))) h)
 
 -- ---- `weekday`: days are counted from the start of -4713-11-23
-abbrev sunday : ℕ
-sunday = 9223372036725175808
-
-pub on_early : (n t : ℕ) → t < sunday → n + (sunday - t) / day_length % 7 ≡ days_on n t
-unfolding days_on
-on_early n t h = rw (lt-leb sunday t h)
-
-pub on_next : (n t : ℕ) → sunday ≤ t → n < (t - sunday) / day_length % 7 → n + 7 - (t - sunday) / day_length % 7 ≡ days_on n t
-unfolding days_on
-on_next n t h k = rw (le-leb sunday t h, lt-ltb n ((t - sunday) / day_length % 7) k)
-
-pub on_this : (n t : ℕ) → sunday ≤ t → (t - sunday) / day_length % 7 ≤ n → n - (t - sunday) / day_length % 7 ≡ days_on n t
-unfolding days_on
-on_this n t h k = rw (le-leb sunday t h, le-ltb n ((t - sunday) / day_length % 7) k)
-
-pub weekday_is : (n : ℕ) (p : Moment) → let q = count_ms (set_counted (fill p) false) in step false (days_on n q.ms * day_length) q ≡ to_weekday n p
+pub weekday_is : (n : ℕ) (p : Moment) → let q = count_ms (set_counted (fill p) false) in step (pos (days_on n q.ms * day_length)) q ≡ to_weekday n p
 unfolding to_weekday
 weekday_is n p = let q = count_ms (set_counted (fill p) false) in ap (λ (t : ℕ). clear (set_ms q t)) (sym (move_times q.ms false (days_on n q.ms) day_length))
 
 -- ---- a month shift: k months n times are so many at once
-pub shift_times : (p : Moment) (z : ℤ) (k : ℕ) → shift p (z *ℤ pos k) 1 ≡ shift p z k
-unfolding shift
-shift_times p z k = ap (λ (n : ℕ). set_date p (n / 12) (n % 12 + 1) p.day) (sym (move_product (p.year * 12 + (p.month - 1)) z k))
+pub months_are : (k : ℕ) (days n : Float) (p : Moment) → date_on (cut n *ℤ pos k) (fraction_ms days n) p ≡ months_on k days n p
+unfolding shift past_end
+months_are k days n p =
+    let q = fill p in
+    ap (λ (m : ℕ). step (fraction_ms days n) (count_ms (past_end (set_counted (set_date q (m / 12) (m % 12 + 1) q.day) false)))) (sym (move_product (q.year * 12 + (q.month - 1)) (cut n) k))
 
 -- ---- the final range
 pub counted_or_failed : (p : Moment) → (count_ms p).failed ≡ false → (count_ms p).counted ≡ true
@@ -132,12 +101,6 @@ counted_or_failed p = count_cases (λ (q : Moment). q.failed ≡ false → q.cou
 -- no sum failed, and the milliseconds are in range
 abbrev pub passes : Moment → Bool
 passes q = not q.failed && in_range q.ms
-
-pub passes_failed : (q : Moment) → q.failed ≡ true → false ≡ passes q
-passes_failed q h = rw h
-
-pub passes_range : (q : Moment) (b : Bool) → q.failed ≡ false → in_range q.ms ≡ b → b ≡ passes q
-passes_range q b h k = rw (h, k)
 
 pub range_out : (p : Moment) → passes (count_ms p) ≡ false → ranged p ≡ refuse Refusal.Null
 unfolding ranged

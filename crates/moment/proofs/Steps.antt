@@ -1,10 +1,9 @@
 -- What each step of the rules gives, case by case. Assumes nothing.
 use mathlib.Core.Bool.{Bool, true, false, not}
 use Rattle.std.specs.Prelude.{if◌then◌else◌}
-use mathlib.Core.Path.{◌≡◌, sym, ap, ◌∙◌}
-use Prim.Native.Nat.{ℕ, ◌+◌, ◌≤◌, ◌<◌}
-use native.Mathlib.Omega.{arith}
-use borrow.Author.Tests.{eq-eqb, le-leb, lt-leb, leb-true}
+use mathlib.Core.Path.{◌≡◌}
+use Prim.Native.Nat.{ℕ, ◌≤◌}
+use borrow.Author.Tests.{le-leb, leb-true}
 use lib.Dec.{eqb, leb}
 use lib.Ieee.{Float}
 use Rattle.rules.specs.Calendar.{year, minus_year, instant, last, in_range, midnight, civil, time_of_day}
@@ -12,22 +11,10 @@ use Rattle.calendar.specs.Ranges.{MonthDay, Countable}
 use Rattle.moment.specs.Ranges.{sum_takes}
 use Rattle.moment.proofs.Branches.{either, by_test}
 use Rattle.real.proofs.Tests.{and_left, and_right}
-use Rattle.rules.specs.Reading.{timed, is_julian, julian_ms, raw_number}
-use Rattle.rules.specs.declared.Time.{Time}
-use Rattle.rules.specs.Moments.{Moment, blank, failure, no_zone, counted, clear, set_ms, set_date, set_dated, set_time, set_timed, set_zone, set_raw, set_utc, time_ms, with_time, sum_of, count_ms, on_date, fill_date, on_time, fill_time, fill}
-
--- ---- with_time
-pub zoneless : (p : Moment) → p.timed ≡ true → p.zone ≡ no_zone → with_time p ≡ set_ms p (p.ms + time_ms p.hour p.minute p.second)
-unfolding with_time
-zoneless p h z = rw (h, eq-eqb p.zone no_zone z)
+use Rattle.rules.specs.Reading.{is_julian, julian_ms, raw_number}
+use Rattle.rules.specs.Moments.{Moment, blank, failure, no_zone, counted, clear, set_date, set_dated, set_time, set_raw, set_utc, with_time, sum_of, count_ms, on_date, fill_date, on_time, fill_time}
 
 -- ---- sum_of
-pub too_early : (y : ℕ) (raw : Bool) → y < minus_year 4713 → false ≡ sum_takes y raw
-too_early y raw h = rw (lt-leb (minus_year 4713) y h)
-
-pub too_late : (y : ℕ) (raw : Bool) → minus_year 4713 ≤ y → year 9999 < y → false ≡ sum_takes y raw
-too_late y raw h k = rw (le-leb (minus_year 4713) y h, lt-leb y (year 9999) k)
-
 pub in_time : (y : ℕ) (raw : Bool) → minus_year 4713 ≤ y → y ≤ year 9999 → not raw ≡ sum_takes y raw
 in_time y raw h k = rw (le-leb (minus_year 4713) y h, le-leb y (year 9999) k)
 
@@ -46,10 +33,6 @@ unsummed p y m d h = rw h
 pub already : (p : Moment) → p.counted ≡ true → count_ms p ≡ p
 unfolding count_ms
 already p h = rw h
-
-pub count_dated : (p : Moment) → p.counted ≡ false → p.dated ≡ true → count_ms p ≡ sum_of p p.year p.month p.day
-unfolding count_ms
-count_dated p h k = rw (h, k)
 
 -- what comes of it: the record as it stood; the error record; or milliseconds that stand, and the fields cleared where a zone was taken off
 pub count_cases : (P : Moment → Type 0) (p : Moment) → (p.counted ≡ true → P p) → P failure → ((t : ℕ) → P (counted p t)) → ((t : ℕ) → P (set_utc (clear (counted p t)))) → P (count_ms p)
@@ -73,22 +56,9 @@ date_unknown p h k = rw (h, k)
 pub in_range_lem : (t : ℕ) → instant 0 ≤ t → t ≤ last → in_range t ≡ true
 in_range_lem t a b = rw (le-leb (instant 0) t a) (le-leb t last b)
 
-pub before_range : (t : ℕ) → t < instant 0 → in_range t ≡ false
-before_range t h = rw (lt-leb (instant 0) t h)
-
-pub from_range : (t : ℕ) → instant 0 ≤ t → in_range t ≡ leb t last
-from_range t h = rw (le-leb (instant 0) t h)
-
-pub after_range : (t : ℕ) → last < t → in_range t ≡ false
-after_range t h = rw (le-leb (instant 0) t (omega arith), lt-leb t last h)
-
 pub date_filled : (p : Moment) → p.dated ≡ false → p.counted ≡ true → in_range p.ms ≡ true → fill_date p ≡ on_date p (civil p.ms)
 unfolding fill_date
 date_filled p h k r = rw (h, k, r)
-
-pub date_fails : (p : Moment) → p.dated ≡ false → p.counted ≡ true → in_range p.ms ≡ false → fill_date p ≡ failure
-unfolding fill_date
-date_fails p h k r = rw (h, k, r)
 
 pub date_cases : (P : Moment → Type 0) (p : Moment) → (p.dated ≡ true → P p) → (in_range p.ms ≡ true → P (on_date p (civil p.ms))) → (p.counted ≡ true → in_range p.ms ≡ false → P failure) → (p.counted ≡ false → P (set_dated (set_date p (year 2000) 1 1) true)) → P (fill_date p)
 unfolding fill_date
@@ -109,18 +79,7 @@ pub time_cases : (P : Moment → Type 0) (p : Moment) → (p.timed ≡ true → 
 unfolding fill_time
 time_cases P p stands fills = by_test P p.timed p (on_time (count_ms p) (time_of_day (count_ms p).ms)) stands (λ _. fills)
 
--- ---- fill
-pub fill_stands : (p : Moment) → p.dated ≡ true → p.timed ≡ true → p ≡ fill p
-unfolding fill
-fill_stands p d t = sym (ap fill_time (date_stands p d) ∙ time_stands p t)
-
 -- ---- what is read
-pub timed_utc : (t : Time) → t.utc ≡ true → timed t ≡ set_utc (set_zone (set_timed (set_time blank t.hour t.minute t.second) true) t.zone)
-timed_utc t h = rw h
-
-pub timed_other : (t : Time) → t.utc ≡ false → timed t ≡ set_zone (set_timed (set_time blank t.hour t.minute t.second) true) t.zone
-timed_other t h = rw h
-
 pub raw_julian : (n : Float) → is_julian n ≡ true → raw_number n ≡ counted (set_raw (set_time blank 0 0 n) true) (instant (julian_ms n))
 raw_julian n h = rw h
 

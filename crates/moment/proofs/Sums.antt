@@ -14,25 +14,13 @@ use Rattle.rules.specs.Reading.{settled}
 use Rattle.rules.specs.declared.Time.{Time}
 use Rattle.rules.specs.declared.Ymd.{Ymd}
 use Rattle.calendar.specs.Ranges.{MonthDay, Countable}
-use Rattle.moment.specs.Ranges.{sum_takes, TimeIn, TimeRead, Sane}
-use Rattle.moment.specs.Sums.{date_meant, time_meant, civil_instant, summed_to, Unsettled}
+use Rattle.moment.specs.Ranges.{sum_takes, TimeRead, Sane}
+use Rattle.moment.specs.Sums.{date_meant, time_meant, civil_instant, summed_to}
 use Rattle.moment.proofs.Branches.{branch_false, either, by_test}
-use Rattle.moment.proofs.Bounds.{no_seconds}
+use Rattle.moment.proofs.Bounds.{midnight_in}
 use Rattle.moment.proofs.Steps.{taken, summed, unsummed}
 
 -- ---- what is meant
-pub date_known : (p : Moment) → p.dated ≡ true → record { year = p.year; month = p.month; day = p.day } ≡ date_meant p
-date_known p h = rw h
-
-pub date_not : (p : Moment) → p.dated ≡ false → record { year = year 2000; month = 1; day = 1 } ≡ date_meant p
-date_not p h = rw h
-
-pub time_known : (p : Moment) → p.timed ≡ true → record { hour = p.hour; minute = p.minute; second = p.second; zone = p.zone; utc = false } ≡ time_meant p
-time_known p h = rw h
-
-pub time_not : (p : Moment) → p.timed ≡ false → record { hour = 0; minute = 0; second = number 0; zone = no_zone; utc = false } ≡ time_meant p
-time_not p h = rw h
-
 -- its ranges, where it is summed
 date_in : (p : Moment) → Sane p → MonthDay (date_meant p).month (date_meant p).day
 date_in p s = either (λ (d : Ymd). MonthDay d.month d.day) p.dated _ _ s.date (omega arith)
@@ -40,7 +28,7 @@ date_in p s = either (λ (d : Ymd). MonthDay d.month d.day) p.dated _ _ s.date (
 time_in : (p : Moment) → Sane p → TimeRead (time_meant p)
 time_in p s =
     by_test TimeRead p.timed _ _ (λ h. record { hours = s.time.hours; minutes = s.time.minutes; seconds = λ _. s.time.seconds h; zone_low = s.time.zone_low; zone_high = s.time.zone_high })
-    (λ _. record { hours = omega arith; minutes = omega arith; seconds = λ _. no_seconds; zone_low = omega arith; zone_high = omega arith })
+    (λ _. midnight_in)
 
 pub date_asked : (p : Moment) (d : Ymd) → d ≡ date_meant p → Sane p → sum_takes d.year p.raw ≡ true → Countable d.year d.month d.day
 date_asked p d e s h = taken _ _ _ p.raw (subst (λ (x : Ymd). MonthDay x.month x.day) (sym e) (date_in p s)) h
@@ -107,18 +95,3 @@ count_fails p d e c h = sym (count_meant p c ∙ ap (sum_at p) (sym e) ∙ unsum
 -- ---- a zone is taken off at once
 pub settled_not : (p : Moment) → p.zone ≡ no_zone → p ≡ settled p
 settled_not p z = rw (eq-eqb p.zone no_zone z)
-
-settled_counts : (p : Moment) → (p.zone ≡ no_zone → ⊥) → count_ms p ≡ settled p
-settled_counts p z = rw (ne_eqb p.zone no_zone z)
-
-pub settled_fails : (p : Moment) → Unsettled p → (p.zone ≡ no_zone → ⊥) → sum_takes p.year p.raw ≡ false → failure ≡ settled p
-settled_fails p u z h = count_fails p _ (date_known p u.dated) u.fresh.uncounted h ∙ settled_counts p z
-
-settled_timed : (p : Moment) → Unsettled p → (p.zone ≡ no_zone → ⊥) → p.timed ≡ true
-settled_timed p u z = u.fresh.timed (ne_eqb p.zone no_zone z)
-
-pub settled_time : (p : Moment) → Sane p → Unsettled p → (p.zone ≡ no_zone → ⊥) → TimeIn p.hour p.minute true p.second p.zone
-settled_time p s u z = time_asked p _ (time_known p (settled_timed p u z)) s
-
-pub settled_sums : (p : Moment) (n : ℕ) → Unsettled p → n ≡ civil_instant p.year p.month p.day p.hour p.minute p.second p.zone → (p.zone ≡ no_zone → ⊥) → sum_takes p.year p.raw ≡ true → summed_to p n p.zone ≡ settled p
-settled_sums p n u g z h = count_sums p _ _ n (date_known p u.dated) (time_known p (settled_timed p u z)) g u.fresh.uncounted h ∙ settled_counts p z

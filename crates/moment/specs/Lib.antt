@@ -1,4 +1,5 @@
 -- What the contracts cite beside crate rules' definitions.
+pub mod Fields
 pub mod Held
 pub mod Ranges
 pub mod Steps

@@ -1,36 +1,18 @@
--- The ranges in which the record's fields lie, whatever it has gone through.
-use Rattle.std.specs.Prelude.{ℕ, ◌+◌, ◌*◌, ◌≤◌, Bool, true, not, ◌&&◌, ◌≡◌, leb, Float}
-use Rattle.rules.specs.Basics.{Read, got, refuse}
+-- What holds of a record on its way through a call, and what a step hands back.
+use Rattle.std.specs.Prelude.{ℕ, ◌+◌, ◌*◌, ◌≤◌, Bool, true, not, ◌&&◌, ◌≡◌, leb, Result, Ok, Err}
+use Rattle.rules.specs.Basics.{Read, read_ok}
 use Rattle.rules.specs.Calendar.{year, minus_year, instant}
 use Rattle.rules.specs.Moments as rule
+use Rattle.rules.specs.declared.Refusal.{Refusal}
 use Rattle.rules.specs.declared.Time.{Time}
-use Rattle.calendar.specs.Ranges.{MonthDay, InRange}
-use Rattle.real.specs.InMinute.{in_minute}
+use Rattle.calendar.specs.Ranges.{InRange}
 use Rattle.real.specs.StepMost.{step_most}
 use Rattle.moment.specs.declared.Moment.{Moment}
-use Rattle.moment.specs.declared.Step.{Step}
-use Rattle.moment.specs.declared.Step.TheVariants.{Next, Refused}
 use Rattle.moment.specs.Held.{held}
-
--- a time of day as it is read or filled: hour 24 too, the seconds where the time stands, a zone of at most 14:59, as it is held
-pub record TimeIn (hour minute : ℕ) (timed : Bool) (second : Float) (zone : ℕ) : Type 0 where
-  pub hours : hour ≤ 24
-  pub minutes : minute ≤ 59
-  pub seconds : timed ≡ true → in_minute second ≡ true
-  pub zone_low : 541 ≤ zone
-  pub zone_high : zone ≤ 2339
+pub use Rattle.moment.specs.Fields.{TimeIn, Fields, Sane}
 
 abbrev pub TimeRead : Time → Type 0
 TimeRead t = TimeIn t.hour t.minute true t.second t.zone
-
--- what holds of the fields of every record; a day may lie past its month's end
-pub record Fields (month day hour minute : ℕ) (timed : Bool) (second : Float) (zone over : ℕ) : Type 0 where
-  pub date : MonthDay month day
-  pub time : TimeIn hour minute timed second zone
-  pub overs : over ≤ 3
-
-abbrev pub Sane : rule.Moment → Type 0
-Sane p = Fields p.month p.day p.hour p.minute p.timed p.second p.zone p.over
 
 -- a year as it is read: -9999 to 9999
 pub record ReadYear (y : ℕ) : Type 0 where
@@ -76,26 +58,23 @@ pub record Full (p : rule.Moment) : Type 0 where
 -- r for p by a step that fills, where the rules say q
 pub record Filled (p r : Moment) (q : rule.Moment) : Type 0 where
   pub is : held r ≡ q
-  pub sane : Sane (held r)
   pub after : (n : ℕ) → After n (held p) → After n (held r)
 
 -- r for p by a modifier that moves the milliseconds, where the rules say q
 pub record Moved (p r : Moment) (q : rule.Moment) : Type 0 where
   pub is : held r ≡ q
-  pub sane : Sane (held r)
   pub after : (n : ℕ) → After n (held p) → After (n + 1) (held r)
 
 -- ---- and one that may be refused
-abbrev pub read_of : Step → Read rule.Moment
-read_of (Next p) = got (held p)
-read_of (Refused x) = refuse x
+abbrev pub read_of : Result Moment Refusal → Read rule.Moment
+read_of r = read_ok held r
 
 -- what holds of the record, if there is one
-abbrev pub Lands : (rule.Moment → Type 0) → Step → Type 0
-Lands P (Next p) = P (held p)
-Lands P (Refused x) = Unit {0}
+abbrev pub Lands : (rule.Moment → Type 0) → Result Moment Refusal → Type 0
+Lands P (Ok p) = P (held p)
+Lands P (Err x) = Unit {0}
 
 -- s for p, where the rules say q
-pub record Answered (p : Moment) (s : Step) (q : Read rule.Moment) : Type 0 where
+pub record Answered (p : Moment) (s : Result Moment Refusal) (q : Read rule.Moment) : Type 0 where
   pub is : read_of s ≡ q
   pub after : (n : ℕ) → After n (held p) → Lands (λ r. After n r) s

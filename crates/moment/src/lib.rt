@@ -2,23 +2,23 @@
 // "each step takes the whole record and hands the next one back".
 //
 // Years, milliseconds and zones are held as crate rules says: 2024 as 42024, the millisecond 0 as 2^63, no zone as 1440.
-// A contract says that what comes back is what the rules' step of the same name gives (`held` is the record as the rules have it), that
-// every field stays in its range (`Sane`), and how far the milliseconds have gone after so many modifiers (`After`).
+// A contract says that what comes back is what the rules' step of the same name gives (`held` is the record as the rules have it), and how
+// far the milliseconds have gone after so many modifiers (`After`).
 #![tactic(auto)]
 
-ghost use Rattle.std.specs.Prelude.{◌≡◌, true, ◌-◌, ◌≤◌, ◌<◌};
+ghost use Rattle.std.specs.Prelude.{◌≡◌, true, ◌^◌, ◌≤◌, ◌<◌};
 ghost use Rattle.rules.specs.Moments as rule;
-ghost use Rattle.rules.specs.Reading as reading;
-ghost use Rattle.calendar.specs.Ranges.{MonthDay, Countable};
+ghost use Rattle.rules.specs.Modifiers.{signed};
+ghost use Rattle.calendar.specs.Ranges.{MonthDay};
 ghost use Rattle.real.specs.InMinute.{in_minute};
-ghost use Rattle.moment.specs.Held.{held};
-ghost use Rattle.moment.specs.Ranges.{sum_takes, TimeIn, TimeRead, ReadYear, Sane, After, Filled};
-ghost use Rattle.moment.specs.Sums.{date_meant, time_meant, civil_instant, summed_to, Unsettled};
+ghost use Rattle.moment.specs.Fields.{TimeIn};
 
-use rules::{Refusal, Time, Ymd};
+use rules::Time;
+pub use settings::{Clock, Offset};
 
+mod fields;
 mod modify;
-mod signs;
+mod settings;
 
 #[derive(Clone, Copy)]
 pub struct Moment {
@@ -48,360 +48,25 @@ pub struct Moment {
     // it is known to be UTC, and to be local time
     pub utc: bool,
     pub local: bool,
+    // whatever the record has gone through; a day may lie past its month's end
+    pub ghost date_in: { MonthDay month day },
+    pub ghost time_in: { TimeIn hour minute timed second zone },
+    pub ghost over_in: { over ≤ 3 },
 }
 
-// What comes of a step that may be refused.
-#[derive(Clone, Copy)]
-pub enum Step {
-    Next(Moment),
-    Refused(Refusal),
-}
-
-// The millisecond 0 and the last, and the Unix epoch.
-const ZERO: u64 = 9223372036854775808;
-
-const LAST: u64 = 9223836305915575807;
-
-const UNIX_EPOCH: u64 = 9223582903614775808;
-
-// "Fields to milliseconds takes years -4713 to 9999."
-const FIRST_YEAR: u32 = 35287;
-
-const LAST_YEAR: u32 = 49999;
-
-// The date that stands in for one that is not known: 2000-01-01.
-const YEAR_2000: u32 = 42000;
-
-const NO_ZONE: u32 = 1440;
-
-// A time of day in milliseconds.
-pub fn time_ms(hour: u32, minute: u32, second: f64) -> u64
-    requires { (hour ≤ 24) × (minute ≤ 59) × (in_minute second ≡ true) }
-    ensures { (result ≡ rule.time_ms hour minute second) × (result < 90000000) }
+// A time of day in milliseconds. Its zone is not looked at.
+#[tactic(auto, using(real::proofs::Seconds::minute_ms))]
+pub fn time_ms(t: Time) -> u64
+    requires { (t.hour ≤ 24) × (t.minute ≤ 59) × (in_minute t.second ≡ true) }
+    ensures { (result ≡ rule.time_ms t.hour t.minute t.second) × (result < 90000000) }
 {
-    hour as u64 * 3600000 + minute as u64 * 60000 + real::seconds_ms(second)
+    t.hour as u64 * 3600000 + t.minute as u64 * 60000 + real::seconds_ms(t.second)
 }
 
-// The instant of a date and a time of day in a zone. No zone, held as 1440 minutes, is 86400000 ms. It takes numbers, and has two callers: so
-// it stays a function, counting around it is inlined, and records stay in registers (docs/SPEED.md).
-fn instant(year: u32, month: u32, day: u32, hour: u32, minute: u32, second: f64, zone: u32) -> u64
-    requires countable { Countable year month day }
-    requires time_in { TimeIn hour minute true second zone }
-    ensures { result ≡ civil_instant year month day hour minute second zone }
+// A count with its sign: back after a minus, else forward.
+pub fn signed(minus: bool, size: u64) -> i64
+    requires { size < 2 ^ 63 }
+    ensures { result ≡ signed minus size }
 {
-    let local = calendar::midnight(year, month, day) + time_ms(hour, minute, second);
-    local + 86400000 - zone as u64 * 60000
-}
-
-// Whether fields are summed: not where the seconds are a number as it was given.
-fn summable(year: u32, raw: bool) -> bool
-    ensures { result ≡ sum_takes year raw }
-{
-    if year < FIRST_YEAR {
-        return false;
-    }
-    if year > LAST_YEAR {
-        return false;
-    }
-    !raw
-}
-
-// The days by which a day lies past its month's end.
-fn days_past(day: u32, length: u32) -> u32
-    ensures { result ≡ day - length }
-{
-    if day > length { day - length } else { 0 }
-}
-
-impl Moment {
-    // Nothing is known: 2000-01-01 00:00 stands in for what is asked.
-    fn unknown(failed: bool) -> Moment
-        ensures { held result ≡ rule.unknown failed }
-    {
-        Moment {
-            ms: ZERO,
-            year: YEAR_2000,
-            month: 1,
-            day: 1,
-            hour: 0,
-            minute: 0,
-            second: 0.0,
-            zone: NO_ZONE,
-            over: 0,
-            counted: false,
-            dated: false,
-            timed: false,
-            raw: false,
-            failed,
-            subsec: false,
-            utc: false,
-            local: false,
-        }
-    }
-
-    pub fn blank() -> Moment
-        ensures { (held result ≡ rule.blank) × After 0 (held result) }
-    {
-        Moment::unknown(false)
-    }
-
-    // "A failed field sum leaves the Rust's error record."
-    fn failure() -> Moment
-        ensures { held result ≡ rule.failure }
-    {
-        Moment::unknown(true)
-    }
-
-    // ---- setters: what one does not name stays
-
-    // The fields no longer stand: the Rust's clear_ymd_hms_tz.
-    pub fn clear(mut self) -> Moment
-        requires { Sane (held self) }
-        ensures { Filled self result (rule.clear (held self)) }
-    {
-        self.dated = false;
-        self.timed = false;
-        self.zone = NO_ZONE;
-        self
-    }
-
-    fn known_utc(mut self) -> Moment
-        requires { Sane (held self) }
-        ensures { Filled self result (rule.set_utc (held self)) }
-    {
-        self.utc = true;
-        self.local = false;
-        self
-    }
-
-    pub fn with_subsec(mut self) -> Moment
-        requires { Sane (held self) }
-        ensures { Filled self result (rule.set_subsec (held self) true) }
-    {
-        self.subsec = true;
-        self
-    }
-
-    pub fn on_date(mut self, year: u32, month: u32, day: u32) -> Moment
-        requires { Sane (held self) × ReadYear year × MonthDay month day }
-        ensures { Filled self result (rule.set_dated (rule.set_date (held self) year month day) true) }
-    {
-        self.year = year;
-        self.month = month;
-        self.day = day;
-        self.dated = true;
-        self
-    }
-
-    // ---- milliseconds from fields: the Rust's compute_jd
-
-    // The date that is summed: 2000-01-01 where none stands.
-    fn date_meant(self) -> Ymd
-        ensures { result ≡ date_meant (held self) }
-    {
-        if self.dated {
-            return Ymd {
-                year: self.year,
-                month: self.month,
-                day: self.day,
-            };
-        }
-        Ymd {
-            year: YEAR_2000,
-            month: 1,
-            day: 1,
-        }
-    }
-
-    // And the time of day, with its zone: midnight and none where none stands.
-    fn time_meant(self) -> Time
-        ensures { result ≡ time_meant (held self) }
-    {
-        if self.timed {
-            return Time {
-                hour: self.hour,
-                minute: self.minute,
-                second: self.second,
-                zone: self.zone,
-                utc: false,
-            };
-        }
-        Time {
-            hour: 0,
-            minute: 0,
-            second: 0.0,
-            zone: NO_ZONE,
-            utc: false,
-        }
-    }
-
-    // The milliseconds of the fields. Where a zone was taken off, they no longer stand.
-    fn summed(mut self, ms: u64, zone: u32) -> Moment
-        requires { Sane (held self) }
-        ensures { held result ≡ summed_to (held self) ms zone }
-    {
-        self.ms = ms;
-        self.counted = true;
-        if zone == NO_ZONE {
-            return self;
-        }
-        self.clear().known_utc()
-    }
-
-    // The milliseconds, where they do not stand. Where the fields are not summed, the error record is left.
-    pub fn count_ms(self) -> Moment
-        requires { Sane (held self) }
-        ensures { Filled self result (rule.count_ms (held self)) }
-    {
-        if self.counted {
-            return self;
-        }
-        let d = self.date_meant();
-        if !summable(d.year, self.raw) {
-            return Moment::failure();
-        }
-        let t = self.time_meant();
-        let ms = instant(d.year, d.month, d.day, t.hour, t.minute, t.second, t.zone);
-        self.summed(ms, t.zone)
-    }
-
-    // The zone of a date and time that were read is taken off at once; without one the record stays.
-    pub fn settled(self) -> Moment
-        requires { Sane (held self) × Unsettled (held self) }
-        ensures { Filled self result (reading.settled (held self)) }
-    {
-        if self.zone == NO_ZONE {
-            return self;
-        }
-        if !summable(self.year, self.raw) {
-            return Moment::failure();
-        }
-        let ms = instant(
-            self.year,
-            self.month,
-            self.day,
-            self.hour,
-            self.minute,
-            self.second,
-            self.zone,
-        );
-        self.summed(ms, self.zone)
-    }
-
-    // ---- fields from milliseconds: the Rust's compute_ymd and compute_hms
-
-    // "Milliseconds to fields takes 0 to the last"; out of it the error record is left.
-    pub fn fill_date(self) -> Moment
-        requires { Sane (held self) }
-        ensures { Filled self result (rule.fill_date (held self)) }
-    {
-        if self.dated {
-            return self;
-        }
-        if !self.counted {
-            return self.on_date(YEAR_2000, 1, 1);
-        }
-        let ms = self.ms;
-        if ms < ZERO {
-            return Moment::failure();
-        }
-        if ms > LAST {
-            return Moment::failure();
-        }
-        let c = calendar::civil(ms);
-        self.on_date(c.year, c.month, c.day)
-    }
-
-    // The time of day t milliseconds after midnight.
-    fn on_time(mut self, t: u32) -> Moment
-        ensures { held result ≡ rule.on_time (held self) t }
-    {
-        self.hour = t / 3600000;
-        self.minute = t / 60000 % 60;
-        self.second = (t % 60000) as f64 / 1000.0;
-        self.raw = false;
-        self.timed = true;
-        self
-    }
-
-    pub fn fill_time(self) -> Moment
-        requires { Sane (held self) }
-        ensures { Filled self result (rule.fill_time (held self)) }
-    {
-        if self.timed {
-            return self;
-        }
-        let p = self.count_ms();
-        p.on_time(calendar::time_of_day(p.ms))
-    }
-
-    // Both, where one of them is missing.
-    fn filled(self) -> Moment
-        requires { Sane (held self) }
-        ensures { Filled self result (rule.fill (held self)) }
-    {
-        self.fill_date().fill_time()
-    }
-
-    pub fn fill(self) -> Moment
-        requires { Sane (held self) }
-        ensures { Filled self result (rule.fill (held self)) }
-    {
-        if self.dated && self.timed {
-            return self;
-        }
-        self.filled()
-    }
-
-    // ---- the month's end: the Rust's compute_floor
-
-    pub fn past_end(mut self) -> Moment
-        requires { Sane (held self) }
-        ensures { Filled self result (rule.past_end (held self)) }
-    {
-        let length = calendar::month_length(self.year, self.month);
-        self.over = days_past(self.day, length);
-        self
-    }
-
-    // ---- what is read
-
-    // A record of which that time is known.
-    pub fn timed(t: Time) -> Moment
-        requires { TimeRead t }
-        ensures { (held result ≡ reading.timed t) × After 0 (held result) }
-    {
-        let mut p = Moment::blank();
-        p.hour = t.hour;
-        p.minute = t.minute;
-        p.second = t.second;
-        p.timed = true;
-        p.zone = t.zone;
-        if t.utc { p.known_utc() } else { p }
-    }
-
-    // The clock, which is UTC.
-    pub fn now(mut self, clock: u64) -> Moment
-        requires { Sane (held self) × (clock ≤ 253402300799999) }
-        ensures { Filled self result (reading.now clock (held self)) }
-    {
-        self.ms = UNIX_EPOCH + clock;
-        self.counted = true;
-        self.known_utc()
-    }
-
-    // "A number n with 0 <= n < 5373484.5 is also a Julian day."
-    pub fn raw_number(n: f64) -> Moment
-        ensures { (held result ≡ reading.raw_number n) × After 0 (held result) }
-    {
-        let mut p = Moment::blank();
-        p.second = n;
-        p.raw = true;
-        if !real::is_julian(n) {
-            return p;
-        }
-        p.ms = ZERO + real::julian_ms(n);
-        p.counted = true;
-        p
-    }
+    if minus { -(size as i64) } else { size as i64 }
 }

@@ -2,19 +2,21 @@
 //
 // A step that moves the milliseconds takes a record to which at most 15 modifiers came before (`Movable`), and one more has come to what it
 // hands back (`Moved`). One that only fills takes any, and hands back one that is no further (`Filled`).
-ghost use Rattle.std.specs.Prelude.{◌≡◌, true, false, not, ◌&&◌, ◌||◌, [], ◌+◌, ◌*◌, ◌≤◌, ◌<◌, nat_abs};
+ghost use Rattle.std.specs.Prelude.{◌≡◌, false, not, ◌&&◌, ◌||◌, [], ◌*◌, ◌≤◌, unsigned_abs};
 ghost use Rattle.rules.specs.Calendar.{in_range};
 ghost use Rattle.rules.specs.Floats.{cut};
 ghost use Rattle.rules.specs.Functions as functions;
 ghost use Rattle.rules.specs.Moments as rule;
 ghost use Rattle.rules.specs.Modifiers as modifiers;
-ghost use Rattle.rules.specs.Modifiers.{signed, nearest_ms, fraction_ms, days_on};
+ghost use Rattle.rules.specs.Modifiers.{nearest_ms, fraction_ms, days_on};
 ghost use Rattle.real.specs.StepMost.{step_most};
 ghost use Rattle.moment.specs.Held.{held};
-ghost use Rattle.moment.specs.Ranges.{ReadYear, Sane, Movable, Filled, Moved, Answered, Ranged, Lands};
-ghost use Rattle.moment.specs.Steps.{length_on, months_on, time_on, first_of_month, first_of_year};
+ghost use Rattle.moment.specs.Ranges.{ReadYear, Movable, Filled, Moved, Answered, Ranged, Lands};
+ghost use Rattle.moment.specs.Steps.{length_on, months_on, time_on, date_on, first_of_month, first_of_year};
 
-use crate::{LAST, Moment, NO_ZONE, Step, ZERO, signs};
+use crate::fields::{NO_ZONE, ZERO};
+use crate::{Moment, Offset};
+use calendar::Instant;
 use rules::Refusal;
 
 // The milliseconds of a day.
@@ -25,6 +27,7 @@ const SUNDAY: u64 = 9223372036725175808;
 
 // The days on to the next day n of the week (0 is Sunday), none if t is one. Before SUNDAY the Rust's quotient and remainder, cut toward
 // zero, are not the day of the week; they are kept.
+#[tactic(auto, unfolding(rules::specs::Modifiers::days_on))]
 fn days_on(n: u64, t: u64) -> u64
     requires { n ≤ 6 }
     ensures { (result ≡ days_on n t) × (result ≤ 12) }
@@ -40,7 +43,6 @@ impl Moment {
     // ---- setters
 
     fn known_local(mut self) -> Moment
-        requires { Sane (held self) }
         ensures { Filled self result (rule.set_local (held self)) }
     {
         self.utc = false;
@@ -49,7 +51,6 @@ impl Moment {
     }
 
     fn not_raw(mut self) -> Moment
-        requires { Sane (held self) }
         ensures { Filled self result (rule.set_raw (held self) false) }
     {
         self.raw = false;
@@ -57,7 +58,6 @@ impl Moment {
     }
 
     fn not_over(mut self) -> Moment
-        requires { Sane (held self) }
         ensures { Filled self result (rule.set_over (held self) 0) }
     {
         self.over = 0;
@@ -65,23 +65,18 @@ impl Moment {
     }
 
     fn uncounted(mut self) -> Moment
-        requires { Sane (held self) }
         ensures { Filled self result (rule.set_counted (held self) false) }
     {
         self.counted = false;
         self
     }
 
-    // The milliseconds moved, and the fields then no longer stand.
-    fn moved(mut self, minus: bool, size: u64) -> Moment
-        requires { Movable (held self) × (size ≤ step_most) }
-        ensures { Moved self result (rule.clear (rule.moved (held self) (signed minus size) 1)) }
+    // The milliseconds moved, and the fields then no longer stand. The sum fits: `Movable` says so.
+    fn moved(mut self, by: i64) -> Moment
+        requires { Movable (held self) × (unsigned_abs by ≤ step_most) }
+        ensures { Moved self result (rule.clear (rule.moved (held self) by 1)) }
     {
-        if minus {
-            self.ms -= size;
-            return self.clear();
-        }
-        self.ms += size;
+        self.ms = self.ms.wrapping_add_signed(by);
         self.clear()
     }
 
@@ -89,7 +84,7 @@ impl Moment {
 
     // The milliseconds are those of r, and nothing else stands.
     fn at_ms(mut self, r: f64) -> Moment
-        requires { Sane (held self) × (nearest_ms r ≤ 464269060800000) }
+        requires { nearest_ms r ≤ 464269060800000 }
         ensures { Filled self result (modifiers.at_ms (held self) r) }
     {
         self.ms = ZERO + real::nearest_ms(r);
@@ -99,14 +94,11 @@ impl Moment {
     }
 
     // "`auto` takes -210866760000 to 253402300799 if the number is no Julian day." Out of it the number stays as it is.
+    #[tactic(auto, using(real::proofs::Epoch::auto_ms), unfolding(rules::specs::Modifiers::auto))]
     pub fn auto(self) -> Moment
-        requires { Sane (held self) }
         ensures { Filled self result (modifiers.auto (held self)) }
     {
-        if !self.raw {
-            return self.not_raw();
-        }
-        if self.counted {
+        if !self.raw || self.counted {
             return self.not_raw();
         }
         if !real::is_auto(self.second) {
@@ -116,39 +108,34 @@ impl Moment {
     }
 
     // A number that is a Julian day.
-    pub fn julian(self) -> Step
-        requires { Sane (held self) }
+    pub fn julian(self) -> Result<Moment, Refusal>
         ensures { Answered self result (modifiers.julian (held self)) }
     {
-        if !self.counted {
-            return Step::Refused(Refusal::Null);
+        if !self.counted || !self.raw {
+            return Err(Refusal::Null);
         }
-        if !self.raw {
-            return Step::Refused(Refusal::Null);
-        }
-        Step::Next(self.not_raw())
+        Ok(self.not_raw())
     }
 
     // "`unixepoch` needs a raw number; r must have 0 <= r < 464269060800000, so NaN is refused."
-    pub fn unix(self) -> Step
-        requires { Sane (held self) }
+    #[tactic(auto, using(real::proofs::Epoch::unix_ms), unfolding(rules::specs::Modifiers::unix))]
+    pub fn unix(self) -> Result<Moment, Refusal>
         ensures { Answered self result (modifiers.unix (held self)) }
     {
         if !self.raw {
-            return Step::Refused(Refusal::Null);
+            return Err(Refusal::Null);
         }
         let r = real::from_epoch(self.second);
         if !real::is_unix(r) {
-            return Step::Refused(Refusal::Null);
+            return Err(Refusal::Null);
         }
-        Step::Next(self.at_ms(r))
+        Ok(self.at_ms(r))
     }
 
     // ---- "`ceiling`, `floor`, `start of day/month/year`, `weekday N`, `localtime`, `utc`: as the Rust."
 
     // The day past its month's end stands as it ran over.
     pub fn ceiling(self) -> Moment
-        requires { Sane (held self) }
         ensures { Filled self result (modifiers.ceiling (held self)) }
     {
         self.count_ms().clear().not_over()
@@ -160,32 +147,28 @@ impl Moment {
         ensures { Moved self result (modifiers.floor (held self)) }
     {
         let p = self.count_ms();
-        p.moved(true, p.over as u64 * DAY).not_over()
+        p.moved(-((p.over as u64 * DAY) as i64)).not_over()
     }
 
-    // The offset in seconds east, "one for the call", "at any millisecond".
-    pub fn localtime(self, offset: i64) -> Moment
-        requires { Movable (held self) × (nat_abs offset ≤ 86399) }
-        ensures { Moved self result (modifiers.localtime offset (held self)) }
+    // The offset is "one for the call", "at any millisecond".
+    pub fn localtime(self, offset: Offset) -> Moment
+        requires { Movable (held self) }
+        ensures { Moved self result (modifiers.localtime offset.seconds (held self)) }
     {
         if self.local {
             return self;
         }
-        let by = signs::way_of(offset);
-        self.count_ms()
-            .moved(by.minus, by.size * 1000)
-            .known_local()
+        self.count_ms().moved(offset.seconds * 1000).known_local()
     }
 
-    pub fn utc(self, offset: i64) -> Moment
-        requires { Movable (held self) × (nat_abs offset ≤ 86399) }
-        ensures { Moved self result (modifiers.utc offset (held self)) }
+    pub fn utc(self, offset: Offset) -> Moment
+        requires { Movable (held self) }
+        ensures { Moved self result (modifiers.utc offset.seconds (held self)) }
     {
         if self.utc {
             return self;
         }
-        let by = signs::way_of(offset);
-        self.count_ms().moved(!by.minus, by.size * 1000).known_utc()
+        self.count_ms().moved(-offset.seconds * 1000).known_utc()
     }
 
     pub fn to_weekday(self, n: u32) -> Moment
@@ -193,24 +176,17 @@ impl Moment {
         ensures { Moved self result (modifiers.to_weekday n (held self)) }
     {
         let p = self.fill().uncounted().count_ms();
-        p.moved(false, days_on(n as u64, p.ms) * DAY)
+        p.moved((days_on(n as u64, p.ms) * DAY) as i64)
     }
 
     // Whether there is anything of which a day could begin.
     pub fn stands(self) -> bool
         ensures { result ≡ (self.counted || (self.dated || self.timed)) }
     {
-        if self.counted {
-            return true;
-        }
-        if self.dated {
-            return true;
-        }
-        self.timed
+        self.counted || self.dated || self.timed
     }
 
     pub fn start_of_day(self) -> Moment
-        requires { Sane (held self) }
         ensures { Filled self result (modifiers.day_start (held self)) }
     {
         let mut p = self.fill_date();
@@ -226,7 +202,6 @@ impl Moment {
     }
 
     pub fn start_of_month(self) -> Moment
-        requires { Sane (held self) }
         ensures { Filled self result (first_of_month (modifiers.day_start (held self))) }
     {
         let mut p = self.start_of_day();
@@ -235,7 +210,6 @@ impl Moment {
     }
 
     pub fn start_of_year(self) -> Moment
-        requires { Sane (held self) }
         ensures { Filled self result (first_of_year (modifiers.day_start (held self))) }
     {
         let mut p = self.start_of_day();
@@ -246,58 +220,54 @@ impl Moment {
 
     // ---- "`N unit`", "`[sign]YYYY-MM-DD[ time]`", "`[sign]HH:MM[:SS[.F]]`"
 
+    pub fn by_time(self, ms: i64) -> Moment
+        requires { Movable (held self) × (unsigned_abs ms ≤ step_most) }
+        ensures { Moved self result (time_on ms (held self)) }
+    {
+        self.count_ms().moved(ms)
+    }
+
     // A number of units of a fixed length, in milliseconds.
     pub fn by_length(self, ms: i64) -> Moment
-        requires { Movable (held self) × (nat_abs ms ≤ step_most) }
+        requires { Movable (held self) × (unsigned_abs ms ≤ step_most) }
         ensures { Moved self result (length_on ms (held self)) }
     {
-        let by = signs::way_of(ms);
-        self.count_ms().moved(by.minus, by.size).not_over()
+        self.by_time(ms).not_over()
     }
 
-    pub fn by_time(self, minus: bool, ms: u64) -> Moment
-        requires { Movable (held self) × (ms < 90000000) }
-        ensures { Moved self result (time_on minus ms (held self)) }
-    {
-        self.count_ms().moved(minus, ms)
-    }
-
-    // "A month shift keeps the day, which may then run over."
+    // "A month shift keeps the day, which may then run over." "months below one are normalised by signed division": no count of months from
+    // the year held as 0 is below one.
+    #[tactic(auto, using(crate::proofs::Ways::move_wraps), unfolding(rules::specs::Moments::shift))]
     pub fn shift(mut self, months: i64) -> Moment
-        requires { Sane (held self) × ReadYear self.year × (nat_abs months ≤ 176545) }
-        ensures { (held result ≡ rule.shift (held self) months 1) × Sane (held result) }
+        requires { ReadYear self.year × (unsigned_abs months ≤ 176545) }
+        ensures { held result ≡ rule.shift (held self) months 1 }
     {
-        let c = signs::in_year(self.year, self.month as i64 + months);
-        self.year = c.year;
-        self.month = c.month;
+        let month = (self.year * 12 + (self.month - 1)) as u64;
+        let shifted = month.wrapping_add_signed(months);
+        self.year = (shifted / 12) as u32;
+        self.month = (shifted % 12) as u32 + 1;
         self
+    }
+
+    // The months first, then the days and the time.
+    pub fn by_date(self, months: i64, ms: i64) -> Moment
+        requires { Movable (held self) × (unsigned_abs months ≤ 176545) × (unsigned_abs ms ≤ step_most) }
+        ensures { Moved self result (date_on months ms (held self)) }
+    {
+        self.fill()
+            .uncounted()
+            .shift(months)
+            .past_end()
+            .count_ms()
+            .moved(ms)
     }
 
     // n units of k months: the whole part shifts months, and of the fraction a whole unit counts as so many days.
     pub fn by_months(self, n: f64, k: u32, days: f64) -> Moment
-        requires { Movable (held self) × (nat_abs (cut n) * k ≤ 176545) × (nat_abs (fraction_ms days n) ≤ step_most) }
+        requires { Movable (held self) × (unsigned_abs (cut n) * k ≤ 176545) × (unsigned_abs (fraction_ms days n) ≤ step_most) }
         ensures { Moved self result (months_on k days n (held self)) }
     {
-        let p = self
-            .fill()
-            .shift(real::cut(n) * k as i64)
-            .past_end()
-            .uncounted();
-        let by = signs::way_of(real::fraction_ms(days, n));
-        p.count_ms().moved(by.minus, by.size)
-    }
-
-    // The months first, then the days and the time.
-    pub fn by_date(self, minus: bool, y: u32, m: u32, d: u32, t: u64) -> Moment
-        requires { Movable (held self) × (y ≤ 9999) × (m ≤ 11) × (d ≤ 30) × (t < 90000000) }
-        ensures { Moved self result (modifiers.by_date minus y m d t (held self)) }
-    {
-        let p = self
-            .fill()
-            .uncounted()
-            .shift(signs::along(minus, y * 12 + m))
-            .past_end();
-        p.count_ms().moved(minus, d as u64 * DAY + t)
+        self.by_date(real::cut(n) * k as i64, real::fraction_ms(days, n))
     }
 
     // ---- for the functions
@@ -306,27 +276,22 @@ impl Moment {
     pub fn in_range(self) -> bool
         ensures { result ≡ (not self.failed && in_range self.ms) }
     {
-        if self.failed {
-            return false;
-        }
-        ZERO <= self.ms && self.ms <= LAST
+        !self.failed && Instant::new(self.ms).is_some()
     }
 
     // "final range": a failed sum, or a time outside 0 to the last millisecond, gives 1.
-    pub fn ranged(self) -> Step
-        requires { Sane (held self) }
+    pub fn ranged(self) -> Result<Moment, Refusal>
         ensures { Answered self result (functions.ranged (held self)) × Lands Ranged result }
     {
         let p = self.count_ms();
         if !p.in_range() {
-            return Step::Refused(Refusal::Null);
+            return Err(Refusal::Null);
         }
-        Step::Next(p)
+        Ok(p)
     }
 
     // "With no modifier, date, time and datetime renew a day above 28 from the milliseconds."
     pub fn renewed(mut self) -> Moment
-        requires { Sane (held self) }
         ensures { Filled self result (functions.renewed [] (held self)) }
     {
         if self.day <= 28 {

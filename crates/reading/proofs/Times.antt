@@ -19,12 +19,6 @@ module _ (l : List ℕ) where
   no_hour_minute e = parts ∙ rw e
 
   module _ (h m : ℕ) (t : List ℕ) (e : hour_minute 24 l ≡ got (h, m, t)) where
-    pub no_second : seconds t ≡ other → time l ≡ other
-    no_second k = parts ∙ rw (e, k)
-
     module _ (x : Float) (r : List ℕ) (k : seconds t ≡ got (x, r)) where
-      pub no_zone_after : zone_in (skip space r) ≡ other → time l ≡ other
-      no_zone_after j = parts ∙ rw (e, k, j)
-
       pub time_of_lem : (z : ℕ) (u : Bool) → zone_in (skip space r) ≡ got (z, u) → time l ≡ got (record { hour = h; minute = m; second = x; zone = z; utc = u })
       time_of_lem z u j = parts ∙ rw (e, k, j)

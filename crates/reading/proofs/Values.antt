@@ -1,14 +1,13 @@
 -- The forms of a time value, in the order in which they are tried. Assumes nothing.
 use Prim.Native.Nat.{ℕ}
-use mathlib.Core.Bool.{true, false, ◌||◌}
+use mathlib.Core.Bool.{false}
 use mathlib.Core.Path.{◌≡◌}
 use mathlib.Core.List.{List}
 use lib.Ieee.{Float}
-use Rattle.rules.specs.Basics.{ascii, word, got, other, refuse, ◌or◌, trim}
+use Rattle.rules.specs.Basics.{ascii, word, got, other, ◌or◌, trim}
 use Rattle.rules.specs.Decimal.{decimal}
-use Rattle.rules.specs.Moments.{Moment, blank, set_subsec}
-use Rattle.rules.specs.Reading.{space, now, raw_number, date_form, time_form, number_form, text_value}
-use Rattle.rules.specs.declared.Refusal.{Refusal}
+use Rattle.rules.specs.Moments.{Moment}
+use Rattle.rules.specs.Reading.{space, raw_number, date_form, time_form, number_form, text_value}
 use Rattle.reading.specs.Readers.{subsec_value}
 
 -- ---- a number
@@ -16,22 +15,6 @@ module _ (s : List ℕ) where
   pub number : (x : Float) → decimal (trim space s) ≡ got x → number_form s ≡ got (raw_number x)
   unfolding number_form
   number x h = rw h
-
-  pub no_number : decimal (trim space s) ≡ other → number_form s ≡ other
-  unfolding number_form
-  no_number h = rw h
-
-  pub refused : (r : Refusal) → decimal (trim space s) ≡ refuse r → number_form s ≡ refuse r
-  unfolding number_form
-  refused r h = rw h
-
--- ---- `subsec` or `subsecond`
-module _ (clock : ℕ) (s : List ℕ) where
-  pub is_subsec : (word (ascii "subsec") s || word (ascii "subsecond") s) ≡ true → subsec_value clock s ≡ got (now clock (set_subsec blank true))
-  is_subsec h = rw h
-
-  pub is_nothing : (word (ascii "subsec") s || word (ascii "subsecond") s) ≡ false → subsec_value clock s ≡ refuse Refusal.Null
-  is_nothing h = rw h
 
 -- ---- one form after another
 module _ (clock : ℕ) (s : List ℕ) where
@@ -45,10 +28,6 @@ module _ (clock : ℕ) (s : List ℕ) where
     is_time p k = rw (h, k)
 
     module _ (k : time_form s ≡ other) where
-      pub is_now : word (ascii "now") s ≡ true → text_value clock s ≡ got (now clock blank)
-      unfolding text_value
-      is_now e = rw (h, k, e)
-
       pub is_last : word (ascii "now") s ≡ false → text_value clock s ≡ (number_form s or subsec_value clock s)
       unfolding text_value
       is_last e = rw (h, k, e)

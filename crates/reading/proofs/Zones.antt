@@ -1,25 +1,17 @@
 -- HH:MM and zones. Assumes nothing.
-use Prim.Native.Nat.{ℕ, ◌+◌, ◌*◌, ◌<◌}
-use mathlib.Core.Bool.{true, false}
-use mathlib.Core.Logic.{◌≢◌}
-use mathlib.Core.Path.{◌≡◌, refl, sym, ◌∙◌}
+use Prim.Native.Nat.{ℕ, ◌+◌, ◌-◌, ◌*◌}
+use mathlib.Core.Bool.{Bool, true, false}
+use mathlib.Core.Path.{◌≡◌, refl, ◌∙◌}
 use mathlib.Core.List.{List, [], ◌∷◌}
-use native.Mathlib.Omega.{arith}
-use borrow.Author.Tests.{ne_eqb}
-use lib.ListN.{length, drop, length-drop}
-use Rattle.rules.specs.Basics.{got, other, ◌>>=◌, ended, byte, digits, skip}
+use lib.Dec.{eqb}
+use Rattle.rules.specs.Basics.{Read, got, other, ◌>>=◌, ended, byte, digits, skip}
 use Rattle.rules.specs.Moments.{no_zone}
 use Rattle.rules.specs.Reading.{space, hours_minutes, zone_in}
-use Rattle.text.proofs.Digits.{digits_short}
-use Rattle.reading.specs.Readers.{hour_minute, east_by, west_by}
-use Rattle.reading.proofs.Steps.{or_other, then_then, char_then, digits_then}
+use Rattle.reading.specs.Readers.{hour_minute}
+use Rattle.reading.proofs.Steps.{or_other, then_then}
 
 -- ---- HH:MM
 module _ (most : ℕ) (l : List ℕ) where
-  pub five_bytes : length l < 5 → hour_minute most l ≡ other
-  unfolding hour_minute
-  five_bytes h = digits_then 2 0 most l _ (λ v. char_then ":" (drop 2 l) _ (rw (digits_short 2 0 59 (drop 1 (drop 2 l)) (simp length-drop (omega arith)))))
-
   pub no_hour : digits 2 0 most l ≡ other → hour_minute most l ≡ other
   unfolding hour_minute
   no_hour h = rw h
@@ -30,10 +22,6 @@ module _ (most : ℕ) (l : List ℕ) where
     no_colon k = rw (h, k)
 
     module _ (n : List ℕ) (k : byte ":" m ≡ got n) where
-      pub no_minute : digits 2 0 59 n ≡ other → hour_minute most l ≡ other
-      unfolding hour_minute
-      no_minute j = rw (h, k, j)
-
       pub hour_and_minute : (w : ℕ) (t : List ℕ) → digits 2 0 59 n ≡ got (w, t) → hour_minute most l ≡ got (v, w, t)
       unfolding hour_minute
       hour_and_minute w t j = rw (h, k, j)
@@ -44,13 +32,21 @@ module _ (l : List ℕ) where
   unfolding hours_minutes hour_minute
   after = simp then_then
 
-  pub no_minutes : hour_minute 14 l ≡ other → hours_minutes l ≡ other
-  no_minutes e = after ∙ rw e
-
   pub minutes : (h m : ℕ) (t : List ℕ) → hour_minute 14 l ≡ got (h, m, t) → hours_minutes l ≡ ended (skip space t) (h * 60 + m)
   minutes h m t e = after ∙ rw e
 
 -- ---- a zone
+-- minutes after a plus and after a minus, as a zone is held
+abbrev pub east_by : Read ℕ → Read (ℕ × Bool)
+east_by r = do
+  n ← r
+  got (no_zone + n, eqb n 0)
+
+abbrev pub west_by : Read ℕ → Read (ℕ × Bool)
+west_by r = do
+  n ← r
+  got (no_zone - n, eqb n 0)
+
 pub no_zone_lem : zone_in [] ≡ got (no_zone, false)
 unfolding zone_in
 no_zone_lem = refl
@@ -60,10 +56,6 @@ module _ (l : List ℕ) where
   unfolding zone_in
   zone_upper = or_other _
 
-  pub zone_lower : zone_in (122 ∷ l) ≡ ended (skip space l) (no_zone, true)
-  unfolding zone_in
-  zone_lower = or_other _
-
   pub zone_east : zone_in (43 ∷ l) ≡ east_by (hours_minutes l)
   unfolding zone_in
   zone_east = or_other _
@@ -71,7 +63,3 @@ module _ (l : List ℕ) where
   pub zone_west : zone_in (45 ∷ l) ≡ west_by (hours_minutes l)
   unfolding zone_in
   zone_west = refl
-
-  pub zone_other : (b : ℕ) → (b ≢ 90) × (b ≢ 122) × (b ≢ 43) × (b ≢ 45) → zone_in (b ∷ l) ≡ other
-  unfolding zone_in
-  zone_other b (h, i, j, k) = rw (ne_eqb 90 b (λ e. h (sym e)), ne_eqb 122 b (λ e. i (sym e)), ne_eqb 43 b (λ e. j (sym e)), ne_eqb 45 b (λ e. k (sym e)))

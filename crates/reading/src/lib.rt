@@ -1,202 +1,120 @@
 // A time value to a record.
 //
-// A reader at the place `at` of s says what the rules' reader of the same name says of `drop at` of its bytes; where it goes on at `next`,
-// what follows is `drop next`. Zones are held as crate rules says: minutes east of UTC plus 1440.
+// A reader takes a slice and says what the rules' reader of the same name says of its bytes: it hands back what it read, and the rest where
+// more may follow. Zones are held as crate rules says: minutes east of UTC plus 1440.
 #![tactic(auto)]
 
-ghost use Rattle.std.specs.Prelude.{◌≡◌, true, ◌||◌, ◌≤◌, length, drop};
+ghost use Rattle.std.specs.Prelude.{◌≡◌, true, ◌||◌, ◌≤◌, length, IfSome};
 ghost use Rattle.rules.specs.Basics as rule;
-ghost use Rattle.rules.specs.Basics.{◌or◌};
+ghost use Rattle.rules.specs.Basics.{◌or◌, read_some};
 ghost use Rattle.rules.specs.Calls.{value_of, bytes_of};
-ghost use Rattle.rules.specs.Moments.{no_zone};
 ghost use Rattle.rules.specs.Reading as reading;
-ghost use Rattle.reading.specs.Readers.{hour_minute, hour_minute_of, UpTo, minutes_of, zone_of, seconds_of, time_of, east_by, west_by, FewMinutes, ZoneHeld, SecondsHeld, TimeHeld, year_month_day, ymd_of, InYear, held_year, form_of, FormHeld, FormFresh, subsec_value};
-ghost use Rattle.moment.specs.Ranges.{After, read_of, Lands};
+ghost use Rattle.real.specs.InMinute.{in_minute};
+ghost use Rattle.reading.specs.Readers.{hour_minute, InZones, year_month_day, Limits, held_year, subsec_value, is_empty};
+ghost use Rattle.moment.specs.Held.{held};
+ghost use Rattle.moment.specs.Ranges.{TimeRead, After, read_of, Lands};
 
-use decimal::Number;
-use moment::{Moment, Step};
-use real::Fraction;
-use rules::{Given, Refusal, Time};
-use text::Found;
+use moment::{Clock, Moment};
+use rules::{Given, Refusal, Time, Ymd};
+use text::{Gap, Space};
 
 const NO_ZONE: u32 = 1440;
 
 // ---- HH:MM
 
-// An hour, a minute, and the place that follows them; or another form.
-#[derive(Clone, Copy)]
-enum HourMinute {
-    Is(u32, u32, usize),
-    Other,
-}
-
-// HH:MM, of an hour up to `most`, minute 0 to 59. The first test is for all five bytes.
-fn hour_minute(s: &[u8], at: usize, most: u32) -> HourMinute
-    ensures result_value { hour_minute_of s.now result ≡ hour_minute most (drop at s.now) }
-    ensures up_to { UpTo most result }
+// An hour up to `most` and a minute, 0 to 59.
+#[tactic(auto, using(text::proofs::Reading::byte_after), unfolding(crate::specs::Readers::hour_minute))]
+fn hour_minute(s: &[u8], most: u32) -> Option<(u32, u32, &[u8])>
+    ensures value { read_some (λ r. (r.0, r.1, r.2.now)) result ≡ hour_minute most s.now }
+    ensures up_to { IfSome result (λ r. (r.0 ≤ most) × (r.1 ≤ 59)) }
+    ensures shorter { IfSome result (λ r. length r.2.now ≤ length s.now) }
 {
-    if text::left(s, at) < 5 {
-        return HourMinute::Other;
-    }
-    let Found::Number(hour, colon) = text::two_at(s, at, 0, most) else {
-        return HourMinute::Other;
-    };
-    if s[colon] != b':' {
-        return HourMinute::Other;
-    }
-    let Found::Number(minute, next) = text::two_at(s, colon + 1, 0, 59) else {
-        return HourMinute::Other;
-    };
-    HourMinute::Is(hour, minute, next)
+    let (hour, colon) = text::digits::<2>(s, 0, most)?;
+    let after = text::byte(colon, b':')?;
+    let (minute, rest) = text::digits::<2>(after, 0, 59)?;
+    Some((hour, minute, rest))
 }
 
 // ---- a zone
 
-// The minutes that a zone lies from UTC; or another form.
-#[derive(Clone, Copy)]
-enum Minutes {
-    Are(u32),
-    Other,
-}
-
-// HH:MM, "hour 0 to 14, minute 0 to 59; only whitespace after".
-fn hours_minutes(s: &[u8], at: usize) -> Minutes
-    ensures result_value { minutes_of result ≡ reading.hours_minutes (drop at s.now) }
-    ensures few_minutes { FewMinutes result }
+// "only whitespace after"
+fn only_space(s: &[u8]) -> bool
+    ensures { result ≡ is_empty (rule.skip reading.space s.now) }
 {
-    let HourMinute::Is(hours, minutes, next) = hour_minute(s, at, 14) else {
-        return Minutes::Other;
-    };
-    if text::skip_space(s, next) < s.len() {
-        return Minutes::Other;
-    }
-    Minutes::Are(hours * 60 + minutes)
+    text::skip::<Space>(s).is_empty()
 }
 
-// A zone as it is held, and whether it says that the time is UTC; or another form.
-#[derive(Clone, Copy)]
-pub enum Zoned {
-    Is(u32, bool),
-    Other,
-}
-
-// After `Z` or `z`: only whitespace.
-fn zulu(s: &[u8], at: usize) -> Zoned
-    ensures result_value { zone_of result ≡ rule.ended (rule.skip reading.space (drop at s.now)) (no_zone, true) }
-    ensures zone_held { ZoneHeld result }
+// HH:MM, "hour 0 to 14, minute 0 to 59; only whitespace after": in minutes.
+#[tactic(auto, unfolding(rules::specs::Reading::hours_minutes, crate::specs::Readers::hour_minute))]
+fn hours_minutes(s: &[u8]) -> Option<u32>
+    ensures value { read_some (λ n. n) result ≡ reading.hours_minutes s.now }
+    ensures few { IfSome result (λ n. n ≤ 899) }
 {
-    if text::skip_space(s, at) < s.len() {
-        return Zoned::Other;
-    }
-    Zoned::Is(NO_ZONE, true)
+    let (hours, minutes, rest) = hour_minute(s, 14)?;
+    only_space(rest).then_some(hours * 60 + minutes)
 }
 
-// After a plus.
-fn east(s: &[u8], at: usize) -> Zoned
-    ensures result_value { zone_of result ≡ east_by (reading.hours_minutes (drop at s.now)) }
-    ensures zone_held { ZoneHeld result }
+// "Zone: whitespace, then nothing, `Z`, `z`, or sign and HH:MM": as it is held, and whether it says that the time is UTC.
+#[tactic(auto, unfolding(rules::specs::Reading::zone_in))]
+pub fn zone(s: &[u8]) -> Option<(u32, bool)>
+    ensures value { read_some (λ z. z) result ≡ reading.zone_in (rule.skip reading.space s.now) }
+    ensures in_zones { IfSome result (λ z. InZones z.0) }
 {
-    match hours_minutes(s, at) {
-        Minutes::Are(n) => Zoned::Is(NO_ZONE + n, n == 0),
-        Minutes::Other => Zoned::Other,
-    }
-}
-
-// After a minus.
-fn west(s: &[u8], at: usize) -> Zoned
-    ensures result_value { zone_of result ≡ west_by (reading.hours_minutes (drop at s.now)) }
-    ensures zone_held { ZoneHeld result }
-{
-    match hours_minutes(s, at) {
-        Minutes::Are(n) => Zoned::Is(NO_ZONE - n, n == 0),
-        Minutes::Other => Zoned::Other,
-    }
-}
-
-// "Zone: whitespace, then nothing, `Z`, `z`, or sign and HH:MM".
-pub fn zone(s: &[u8], at: usize) -> Zoned
-    ensures result_value { zone_of result ≡ reading.zone_in (rule.skip reading.space (drop at s.now)) }
-    ensures zone_held { ZoneHeld result }
-{
-    let from = text::skip_space(s, at);
-    if s.len() <= from {
-        return Zoned::Is(NO_ZONE, false);
-    }
-    match s[from] {
-        b'Z' | b'z' => zulu(s, from + 1),
-        b'+' => east(s, from + 1),
-        b'-' => west(s, from + 1),
-        _ => Zoned::Other,
+    match text::skip::<Space>(s) {
+        [] => Some((NO_ZONE, false)),
+        [b'Z' | b'z', rest @ ..] => only_space(rest).then_some((NO_ZONE, true)),
+        [b'+', rest @ ..] => {
+            let n = hours_minutes(rest)?;
+            Some((NO_ZONE + n, n == 0))
+        }
+        [b'-', rest @ ..] => {
+            let n = hours_minutes(rest)?;
+            Some((NO_ZONE - n, n == 0))
+        }
+        _ => None,
     }
 }
 
 // ---- seconds
 
 // "Fraction: a point and at least one digit." Without one of the two there is none.
-fn fraction(s: &[u8], at: usize) -> Fraction
-    ensures { (result.value, drop result.next s.now) ≡ reading.fraction (drop at s.now) }
+#[tactic(auto, using(real::proofs::Literals::literals), unfolding(rules::specs::Reading::fraction, rules::specs::Decimal::run))]
+fn fraction(s: &[u8]) -> (f64, &[u8])
+    ensures value { result.0 ≡ (reading.fraction s.now).0 }
+    ensures rest { result.1.now ≡ (reading.fraction s.now).1 }
 {
-    if !text::has(s, at, b'.') {
-        return Fraction {
-            value: 0.0,
-            next: at,
-        };
+    match s {
+        [b'.', b'0'..=b'9', ..] => real::fraction(&s[1..]),
+        _ => (0.0, s),
     }
-    let f = real::fraction_at(s, at + 1);
-    if f.next == at + 1 {
-        return Fraction {
-            value: 0.0,
-            next: at,
-        };
-    }
-    f
-}
-
-// Seconds with their fraction, and the place that follows them; or another form.
-#[derive(Clone, Copy)]
-pub enum Second {
-    Is(f64, usize),
-    Other,
 }
 
 // [:SS[.F]]
-pub fn seconds(s: &[u8], at: usize) -> Second
-    ensures result_value { seconds_of s.now result ≡ reading.seconds (drop at s.now) }
-    ensures seconds_held { SecondsHeld s.now result }
+#[tactic(auto, using(real::proofs::Literals::literals), unfolding(rules::specs::Reading::seconds, rules::specs::Reading::seconds_in))]
+pub fn seconds(s: &[u8]) -> Option<(f64, &[u8])>
+    ensures value { read_some (λ r. (r.0, r.1.now)) result ≡ reading.seconds s.now }
+    ensures in_minute { IfSome result (λ r. length s.now ≤ 255 → in_minute r.0 ≡ true) }
 {
-    if !text::has(s, at, b':') {
-        return Second::Is(0.0, at);
-    }
-    let Found::Number(n, next) = text::two_digits(s, at + 1, 0, 59) else {
-        return Second::Other;
+    let Some(after) = text::byte(s, b':') else {
+        return Some((0.0, s));
     };
-    let f = fraction(s, next);
-    Second::Is(n as f64 + f.value, f.next)
+    let (n, point) = text::digits::<2>(after, 0, 59)?;
+    let (f, rest) = fraction(point);
+    Some((n as f64 + f, rest))
 }
 
 // ---- a time of day
 
-#[derive(Clone, Copy)]
-pub enum Daytime {
-    Is(Time),
-    Other,
-}
-
 // HH:MM[:SS[.F]][zone], "hour 0 to 24, minute and second 0 to 59, always full digits", to the end of the text.
-pub fn time(s: &[u8], at: usize) -> Daytime
-    ensures result_value { time_of result ≡ reading.time (drop at s.now) }
-    ensures time_held { TimeHeld s.now result }
+#[tactic(auto, unfolding(rules::specs::Reading::time, crate::specs::Readers::hour_minute))]
+pub fn time(s: &[u8]) -> Option<Time>
+    ensures value { read_some (λ t. t) result ≡ reading.time s.now }
+    ensures time_read { IfSome result (λ t. length s.now ≤ 255 → TimeRead t) }
 {
-    let HourMinute::Is(hour, minute, after) = hour_minute(s, at, 24) else {
-        return Daytime::Other;
-    };
-    let Second::Is(second, next) = seconds(s, after) else {
-        return Daytime::Other;
-    };
-    let Zoned::Is(zone, utc) = zone(s, next) else {
-        return Daytime::Other;
-    };
-    Daytime::Is(Time {
+    let (hour, minute, after) = hour_minute(s, 24)?;
+    let (second, rest) = seconds(after)?;
+    let (zone, utc) = zone(rest)?;
+    Some(Time {
         hour,
         minute,
         second,
@@ -207,37 +125,19 @@ pub fn time(s: &[u8], at: usize) -> Daytime
 
 // ---- a date
 
-// A year, a month, a day, and the place that follows them; or another form.
-#[derive(Clone, Copy)]
-pub enum YearMonthDay {
-    Is(u32, u32, u32, usize),
-    Other,
-}
-
-// YYYY-MM-DD: year 0 to 9999, month and day from `low` up to `months` and `days`. The first test is for all ten bytes.
-pub fn year_month_day(s: &[u8], at: usize, low: u32, months: u32, days: u32) -> YearMonthDay
-    ensures result_value { ymd_of s.now result ≡ year_month_day low months days (drop at s.now) }
-    ensures in_year { InYear low months days result }
+// YYYY-MM-DD: year 0 to 9999, month and day from `low` up to `months` and `days`.
+#[tactic(auto, using(text::proofs::Reading::byte_after), unfolding(crate::specs::Readers::year_month_day))]
+pub fn year_month_day(s: &[u8], low: u32, months: u32, days: u32) -> Option<(u32, u32, u32, &[u8])>
+    ensures value { read_some (λ r. (r.0, r.1, r.2, r.3.now)) result ≡ year_month_day low months days s.now }
+    ensures limits { IfSome result (λ r. Limits low months days r.0 r.1 r.2) }
+    ensures shorter { IfSome result (λ r. length r.3.now ≤ length s.now) }
 {
-    if text::left(s, at) < 10 {
-        return YearMonthDay::Other;
-    }
-    let Found::Number(year, dash) = text::four_at(s, at) else {
-        return YearMonthDay::Other;
-    };
-    if s[dash] != b'-' {
-        return YearMonthDay::Other;
-    }
-    let Found::Number(month, second) = text::two_at(s, dash + 1, low, months) else {
-        return YearMonthDay::Other;
-    };
-    if s[second] != b'-' {
-        return YearMonthDay::Other;
-    }
-    let Found::Number(day, next) = text::two_at(s, second + 1, low, days) else {
-        return YearMonthDay::Other;
-    };
-    YearMonthDay::Is(year, month, day, next)
+    let (year, dash) = text::digits::<4>(s, 0, 9999)?;
+    let after = text::byte(dash, b'-')?;
+    let (month, second) = text::digits::<2>(after, low, months)?;
+    let last = text::byte(second, b'-')?;
+    let (day, rest) = text::digits::<2>(last, low, days)?;
+    Some((year, month, day, rest))
 }
 
 // A year as it is held: 40000 more.
@@ -248,53 +148,54 @@ fn held_year(y: u32, minus: bool) -> u32
     if minus { 40000 - y } else { 40000 + y }
 }
 
-// The record that a text of some form reads to; or another form.
-#[derive(Clone, Copy)]
-pub enum Form {
-    Is(Moment),
-    Other,
-}
-
 // "a time alone (date 2000-01-01)"
-pub fn time_alone(s: &[u8], at: usize) -> Form
+#[tactic(auto, unfolding(rules::specs::Reading::time_form))]
+pub fn time_alone(s: &[u8]) -> Option<Moment>
     requires { length s.now ≤ 255 }
-    ensures result_value { form_of result ≡ reading.time_form (drop at s.now) }
-    ensures form_held { FormHeld result × FormFresh result }
+    ensures value { read_some held result ≡ reading.time_form s.now }
+    ensures after { IfSome result (λ p. After 0 (held p)) }
 {
-    let Daytime::Is(t) = time(s, at) else {
-        return Form::Other;
-    };
-    Form::Is(Moment::timed(t))
+    Some(Moment::timed(time(s)?))
 }
 
 // After a date: "optional time", or the end.
-fn time_after(s: &[u8], at: usize) -> Form
+#[tactic(auto, using(crate::proofs::Dates::time_follows))]
+fn time_after(s: &[u8]) -> Option<Moment>
     requires { length s.now ≤ 255 }
-    ensures result_value { form_of result ≡ reading.time_after (drop at s.now) }
-    ensures form_held { FormHeld result × FormFresh result }
+    ensures value { read_some held result ≡ reading.time_after s.now }
+    ensures after { IfSome result (λ p. After 0 (held p)) }
 {
-    if s.len() <= at {
-        return Form::Is(Moment::blank());
+    if s.is_empty() {
+        return Some(Moment::blank());
     }
-    time_alone(s, at)
+    time_alone(s)
 }
 
-// "`[-]YYYY-MM-DD` with optional time". "Between date and time any run of whitespace and `T`, also none." A zone is taken off at once.
-pub fn date(s: &[u8]) -> Form
+// YYYY-MM-DD with optional time, of a year before 0 where `minus` says so. "Between date and time any run of whitespace and `T`, also none." A
+// zone is taken off at once.
+#[tactic(auto, unfolding(rules::specs::Reading::date_from, crate::specs::Readers::year_month_day))]
+fn date_from(s: &[u8], minus: bool) -> Option<Moment>
     requires { length s.now ≤ 255 }
-    ensures result_value { form_of result ≡ reading.date_form s.now }
-    ensures form_held { FormHeld result }
+    ensures value { read_some held result ≡ reading.date_from (held_year minus) s.now }
+    ensures after { IfSome result (λ p. After 0 (held p)) }
 {
-    let minus = text::has(s, 0, b'-');
-    let at = if minus { 1 } else { 0 };
-    let YearMonthDay::Is(y, month, day, end) = year_month_day(s, at, 1, 12, 31) else {
-        return Form::Other;
-    };
-    let Form::Is(p) = time_after(s, text::skip_gap(s, end)) else {
-        return Form::Other;
-    };
+    let (y, month, day, rest) = year_month_day(s, 1, 12, 31)?;
+    let p = time_after(text::skip::<Gap>(rest))?;
     let year = held_year(y, minus);
-    Form::Is(p.on_date(year, month, day).past_end().settled())
+    Some(p.on_date(Ymd { year, month, day }).past_end().settled())
+}
+
+// "`[-]YYYY-MM-DD` with optional time"
+pub fn date(s: &[u8]) -> Option<Moment>
+    requires { length s.now ≤ 255 }
+    ensures value { read_some held result ≡ reading.date_form s.now }
+    ensures after { IfSome result (λ p. After 0 (held p)) }
+{
+    let (minus, unsigned) = match text::byte(s, b'-') {
+        Some(rest) => (true, rest),
+        None => (false, s),
+    };
+    date_from(unsigned, minus)
 }
 
 // ---- a time value
@@ -306,61 +207,59 @@ fn is_subsec(s: &[u8]) -> bool
 }
 
 // What is neither date, time, `now` nor number: `subsec` or `subsecond`.
-fn subsec_value(s: &[u8], clock: u64) -> Step
-    requires { clock ≤ 253402300799999 }
-    ensures result_value { read_of result ≡ subsec_value clock s.now }
+fn subsec_value(s: &[u8], clock: Clock) -> Result<Moment, Refusal>
+    ensures value { read_of result ≡ subsec_value clock.ms s.now }
     ensures lands { Lands (After 0) result }
 {
     if is_subsec(s) {
-        return Step::Next(Moment::blank().with_subsec().now(clock));
+        return Ok(Moment::blank().with_subsec().now(clock));
     }
-    Step::Refused(Refusal::Null)
+    Err(Refusal::Null)
 }
 
 // What is neither date, time nor `now`: a decimal, which "is trimmed of it on both sides".
-fn number_value(s: &[u8], clock: u64) -> Step
-    requires { clock ≤ 253402300799999 }
-    ensures result_value { read_of result ≡ (reading.number_form s.now or subsec_value clock s.now) }
+#[tactic(auto, unfolding(rules::specs::Reading::number_form))]
+fn number_value(s: &[u8], clock: Clock) -> Result<Moment, Refusal>
+    ensures value { read_of result ≡ (reading.number_form s.now or subsec_value clock.ms s.now) }
     ensures lands { Lands (After 0) result }
 {
-    match decimal::decimal(text::trim_space(s)) {
-        Number::Is(x) => Step::Next(Moment::raw_number(x)),
-        Number::Over => Step::Refused(Refusal::Decimal),
-        Number::NotOne => subsec_value(s, clock),
+    match decimal::decimal(text::trim::<Space>(s))? {
+        Some(x) => Ok(Moment::raw_number(x)),
+        None => subsec_value(s, clock),
     }
 }
 
 // "Tried in order: `[-]YYYY-MM-DD` with optional time; a time alone (date 2000-01-01); `now`; a decimal; `subsec` or `subsecond`. Words in either case."
-pub fn text_value(s: &[u8], clock: u64) -> Step
-    requires short { length s.now ≤ 255 }
-    requires clock_in { clock ≤ 253402300799999 }
-    ensures result_value { read_of result ≡ reading.text_value clock s.now }
+#[tactic(auto, unfolding(rules::specs::Reading::text_value))]
+pub fn text_value(s: &[u8], clock: Clock) -> Result<Moment, Refusal>
+    requires { length s.now ≤ 255 }
+    ensures value { read_of result ≡ reading.text_value clock.ms s.now }
     ensures lands { Lands (After 0) result }
 {
-    if let Form::Is(p) = date(s) {
-        return Step::Next(p);
+    if let Some(p) = date(s) {
+        return Ok(p);
     }
-    if let Form::Is(p) = time_alone(s, 0) {
-        return Step::Next(p);
+    if let Some(p) = time_alone(s) {
+        return Ok(p);
     }
     if text::is_word(s, b"now") {
-        return Step::Next(Moment::blank().now(clock));
+        return Ok(Moment::blank().now(clock));
     }
     number_value(s, clock)
 }
 
 // "A time value is absent (read as `now`; ..), null, bytes, a 64-bit signed integer or an f64." The bytes stand in s.
-pub fn time_value(given: Given, s: &[u8], clock: u64) -> Step
-    requires short { length (bytes_of (value_of given s.now)) ≤ 255 }
-    requires clock_in { clock ≤ 253402300799999 }
-    ensures result_value { read_of result ≡ reading.time_value clock (value_of given s.now) }
+#[tactic(auto, unfolding(rules::specs::Reading::time_value))]
+pub fn time_value(given: Given, s: &[u8], clock: Clock) -> Result<Moment, Refusal>
+    requires { length (bytes_of (value_of given s.now)) ≤ 255 }
+    ensures value { read_of result ≡ reading.time_value clock.ms (value_of given s.now) }
     ensures lands { Lands (After 0) result }
 {
     match given {
-        Given::Absent => Step::Next(Moment::blank().now(clock)),
-        Given::Null => Step::Refused(Refusal::Null),
+        Given::Absent => Ok(Moment::blank().now(clock)),
+        Given::Null => Err(Refusal::Null),
         Given::Bytes => text_value(s, clock),
-        Given::Integer(n) => Step::Next(Moment::raw_number(real::of_integer(n))),
-        Given::Real(x) => Step::Next(Moment::raw_number(x)),
+        Given::Integer(n) => Ok(Moment::raw_number(real::of_integer(n))),
+        Given::Real(x) => Ok(Moment::raw_number(x)),
     }
 }

@@ -97,3 +97,6 @@ years_limit = refl
 pub seven : of_bits binary64 0x401c_0000_0000_0000 ≡ number 7
 unfolding of_bits of_int round
 seven = refl
+
+-- all of them, for the check
+pub ruleset literals = (nil, half, most, one, ten, thousand, day, julian_end, epoch, end, auto_low, auto_high, hour, minute, thirty, year_days, days_limit, hours_limit, minutes_limit, seconds_limit, months_limit, years_limit, seven)

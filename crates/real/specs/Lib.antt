@@ -1,5 +1,4 @@
 -- What the contracts cite beside crate rules' definitions.
-pub mod FractionAt
 pub mod PartsOf
 pub mod InMinute
 pub mod StepMost

@@ -4,9 +4,9 @@
 // A contract is an equation with a definition of crate rules, so it says which operations are made and in what order. How far
 // those lead stands as laws in proofs/: Seconds, Epoch, Units.
 // Milliseconds are held as crate rules says: a u64 that is 2^63 above the count from noon of -4713-11-24.
-#![tactic(auto)]
+#![tactic(auto, using(crate::proofs::Literals::literals))]
 
-ghost use Rattle.std.specs.Prelude.{◌≡◌, ◌^◌, ◌<◌, ◌≤◌, true, length};
+ghost use Rattle.std.specs.Prelude.{◌≡◌, ◌^◌, ◌<◌, ◌≤◌, true, length, [], ◌∷◌, IfSome, IfNone};
 ghost use Rattle.std.specs.Float.{binary64};
 ghost use Rattle.std.specs.Float.Ieee.{of_int, minus};
 ghost use Rattle.std.specs.Float.Ieee.Nearest.{closest};
@@ -14,12 +14,16 @@ ghost use Rattle.rules.specs.Floats as floats;
 ghost use Rattle.rules.specs.Floats.{number, decimals};
 ghost use Rattle.rules.specs.Calendar.{instant, last};
 ghost use Rattle.rules.specs.Moments.{seconds_ms};
-ghost use Rattle.rules.specs.Reading.{is_julian, julian_ms};
+ghost use Rattle.rules.specs.Reading.{is_julian, julian_ms, fraction_of};
 ghost use Rattle.rules.specs.Modifiers as modifiers;
 ghost use Rattle.rules.specs.Modifiers.{from_epoch, nearest_ms, is_auto, is_unix, unit_ms, fraction_ms};
-ghost use Rattle.rules.specs.Writing.{floor_div, unix_seconds, unix_real, julian_real};
-ghost use Rattle.real.specs.FractionAt.{FractionAt};
+ghost use Rattle.rules.specs.Writing.{unix_seconds, unix_real, julian_real};
+ghost use Rattle.rules.specs.Decimal.{run};
 ghost use Rattle.real.specs.PartsOf.{PartsOf};
+
+use std::num::{
+    nearest_i64_to_f64, nearest_u64_to_f64, saturating_f64_to_i64, saturating_f64_to_u64,
+};
 
 // ---- cuts, and whole numbers as f64
 
@@ -27,39 +31,21 @@ ghost use Rattle.real.specs.PartsOf.{PartsOf};
 pub fn cut(x: f64) -> i64
     ensures { result ≡ floats.cut x }
 {
-    if x >= -9223372036854775808.0 {
-        if x < 9223372036854775808.0 {
-            std::num::truncating_f64_to_i64(x)
-        } else {
-            9223372036854775807
-        }
-    } else if x != x {
-        0
-    } else {
-        -9223372036854775808
-    }
+    saturating_f64_to_i64(x)
 }
 
 // The same without a sign: 0 for what is negative, Rust's `x as u64`.
 pub fn whole(x: f64) -> u64
     ensures { result ≡ floats.whole x }
 {
-    if x > -1.0 {
-        if x < 18446744073709551616.0 {
-            std::num::truncating_f64_to_u64(x)
-        } else {
-            18446744073709551615
-        }
-    } else {
-        0
-    }
+    saturating_f64_to_u64(x)
 }
 
 // An integer to the nearest f64, ties to even.
 pub fn of_integer(n: i64) -> f64
     ensures { result ≡ of_int binary64 n }
 {
-    std::num::nearest_i64_to_f64(n)
+    nearest_i64_to_f64(n)
 }
 
 // ---- seconds and days as milliseconds
@@ -157,40 +143,32 @@ const START: u64 = 9223372036854775808;
 fn signed(ms: u64) -> i64
     ensures { result ≡ minus ms 9223372036854775808 }
 {
-    if ms >= START {
-        (ms - START) as i64
-    } else {
-        -1 - ((START - 1 - ms) as i64)
-    }
+    ms.wrapping_sub(START).cast_signed()
 }
 
-// n / 1000 "rounded by floor, so -500 ms is second -1": a quotient cut toward zero is one too high where a remainder is negative.
-fn floor_seconds(n: i64) -> i64
-    ensures { result ≡ floor_div n 1000 }
-{
-    let q = n / 1000;
-    if n % 1000 < 0 { q - 1 } else { q }
-}
-
-// Whole seconds from 1970. The epoch is a whole second, so it may be taken off after the division, where it always fits.
+// Whole seconds from 1970, "rounded by floor, so -500 ms is second -1". The epoch is a whole second, so it may be taken off after the
+// division, where it always fits.
 pub fn unix_seconds(ms: u64) -> i64
     ensures { result ≡ unix_seconds ms }
 {
-    floor_seconds(signed(ms)) - 210866760000
+    signed(ms).div_euclid(1000) - 210866760000
 }
 
 // Seconds from 1970 with their fraction.
+#[tactic(auto, using(crate::proofs::Literals::literals, crate::proofs::Sign::negated), unfolding(rules::specs::Writing::unix_real))]
 pub fn unix_real(ms: u64) -> f64
     ensures { result ≡ unix_real ms }
 {
     if ms >= UNIX_EPOCH {
-        std::num::nearest_u64_to_f64(ms - UNIX_EPOCH) / 1000.0
+        nearest_u64_to_f64(ms - UNIX_EPOCH) / 1000.0
     } else {
-        -std::num::nearest_u64_to_f64(UNIX_EPOCH - ms) / 1000.0
+        -nearest_u64_to_f64(UNIX_EPOCH - ms) / 1000.0
     }
 }
 
-// Days from noon of -4713-11-24, for milliseconds from 0 to the last.
+// Days from noon of -4713-11-24, for milliseconds from 0 to the last. The two bounds are clauses here and in crate digits, which stand below
+// the calendar and its type for such a time, `Instant`; and %J begins later than at 0.
+#[tactic(auto, using(crate::proofs::Literals::literals), unfolding(rules::specs::Writing::julian_real))]
 pub fn julian_real(ms: u64) -> f64
     requires not_before { instant 0 ≤ ms }
     requires not_after { ms ≤ last }
@@ -201,37 +179,37 @@ pub fn julian_real(ms: u64) -> f64
 
 // ---- the fraction of a second
 
-// The value of some digits, and the place after them.
-#[derive(Clone, Copy)]
-pub struct Fraction {
-    pub value: f64,
-    pub next: usize,
+// The digit at the front, from 0 to 9, and what follows it.
+#[tactic(auto, unfolding(rules::specs::Decimal::run))]
+pub fn digit(s: &[u8]) -> Option<(u8, &[u8])>
+    ensures digit { IfSome result (λ r. run s.now ≡ (r.0 ∷ (run r.1.now).0, (run r.1.now).1)) }
+    ensures small { IfSome result (λ r. r.0 ≤ 9) }
+    ensures shorter { IfSome result (λ r. length r.1.now < length s.now) }
+    ensures other { IfNone result (run s.now ≡ ([], s.now)) }
+{
+    match s {
+        [b @ b'0'..=b'9', after @ ..] => Some((*b - b'0', after)),
+        _ => None,
+    }
 }
 
-// The digits from `at` on as a fraction: "each digit is one multiplication by ten and one addition, in f64; the scale is
-// multiplied by ten likewise; one division; above 0.999 becomes 0.999". Where there is none the value is 0.
-pub fn fraction_at(s: &[u8], at: usize) -> Fraction
-    requires { at ≤ length s.now }
-    ensures { FractionAt s.now at result.value result.next }
+// The digits at the front as a fraction, and what follows them: "each digit is one multiplication by ten and one addition, in f64; the
+// scale is multiplied by ten likewise; one division; above 0.999 becomes 0.999". Where there is no digit the value is 0.
+#[tactic(auto, using(crate::proofs::Literals::literals), unfolding(rules::specs::Reading::digit_sum, rules::specs::Reading::scale, rules::specs::Reading::fraction_of))]
+pub fn fraction(s: &[u8]) -> (f64, &[u8])
+    ensures value { result.0 ≡ fraction_of (run s.now).0 }
+    ensures rest { result.1.now ≡ (run s.now).1 }
 {
     let mut sum = 0.0;
     let mut scale = 1.0;
-    let mut next = at;
-    while next < s.len() {
-        let b = s[next];
-        if b < b'0' || b > b'9' {
-            break;
-        }
-        sum = sum * 10.0 + ((b - b'0') as f64);
-        scale = scale * 10.0;
-        next += 1;
+    let mut rest = s;
+    while let Some((d, after)) = digit(rest) {
+        sum = sum * 10.0 + f64::from(d);
+        scale *= 10.0;
+        rest = after;
     }
     let value = sum / scale;
-    if value > 0.999 {
-        Fraction { value: 0.999, next }
-    } else {
-        Fraction { value, next }
-    }
+    (if value > 0.999 { 0.999 } else { value }, rest)
 }
 
 // ---- fixed point: ties to even, on the exact value
@@ -271,7 +249,7 @@ fn parts_of(x: f64) -> Parts
     requires { floats.below x (number 9007199254740992) ≡ true }
     ensures { PartsOf x result.digits result.shift }
 {
-    let bits = f64::to_bits(x) % SIGN;
+    let bits = x.to_bits() % SIGN;
     let exponent = bits / FIELD;
     let digits = bits % FIELD;
     if exponent > 0 {

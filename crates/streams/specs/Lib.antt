@@ -1,3 +1,2 @@
--- What the contracts cite of bytes that are read and written, and of digits.
-pub mod Digits
+-- What the contracts cite of bytes that are written.
 pub mod Known

@@ -1,6 +1,7 @@
 pub mod Tests
 pub mod Bytes
 pub mod Runs
-pub mod Digits
+pub mod Numbers
 pub mod Words
+pub mod Cuts
 pub mod Reading

@@ -3,18 +3,19 @@ use mathlib.Core.Path.{◌≡◌, refl, sym, ◌∙◌, ap}
 use Rattle.std.specs.Prelude.{if◌then◌else◌}
 use mathlib.Core.Bool.{Bool, true, false}
 use mathlib.Core.List.{◌++◌}
-use Prim.Native.Nat.{ℕ, ◌+◌, ◌-◌, ◌*◌, ◌/◌, ◌≤◌, ◌<◌}
+use Prim.Native.Nat.{ℕ, ◌+◌, ◌-◌, ◌*◌, ◌/◌, ◌≤◌}
 use native.Mathlib.Omega.{arith}
-use borrow.Author.Tests.{leb-true, leb-false, le-leb, lt-leb}
+use borrow.Author.Tests.{leb-true, leb-false, le-leb}
 use lib.Dec.{leb}
 use Rattle.rules.specs.Basics.{ascii}
+use Rattle.std.specs.Int.{abs_diff}
 use Rattle.rules.specs.Calendar.{year, minus_year, day_length}
 use Rattle.rules.specs.Writing.{shift_text, forward, backward, difference}
 use Rattle.calendar.specs.Ranges.{InRange}
-use Rattle.timediff.specs.Spans.{Toward, Tells, month_at, shifted, passes, between, months_of, rest_of, shift_of, span, span_text}
+use Rattle.timediff.specs.Spans.{gap, Toward, Tells, month_at, shifted, passes, between, months_of, rest_of, shift_of, span, span_text}
 use Rattle.timediff.specs.declared.Span.{Span}
 use Rattle.timediff.specs.declared.Shift.{Shift}
-use Rattle.timediff.proofs.Shifts.{month_low, month_high}
+use Rattle.timediff.proofs.Shifts.{gap_is, month_low, month_high}
 use Rattle.timediff.proofs.Numbers.{up_to, rest_high}
 
 -- ---- the sign
@@ -29,10 +30,6 @@ toward a b = go (leb b a) refl
 pub span_plus : (a b : ℕ) → b ≤ a → span a b ≡ record { plus = true; months = months_of true a b; rest = rest_of true a b }
 unfolding span
 span_plus a b h = rw (le-leb b a h)
-
-pub span_minus : (a b : ℕ) → a < b → span a b ≡ record { plus = false; months = months_of false a b; rest = rest_of false a b }
-unfolding span
-span_minus a b h = rw (lt-leb b a h)
 
 -- ---- the text
 
@@ -74,10 +71,8 @@ tells a b s A B e = record { text = ap span_text e ∙ text a b; is = e; writabl
 
 -- ---- what the code makes of the shift
 
-pub tells_plus : (a b : ℕ) (t : Shift) → InRange a → InRange b → b ≤ a → t ≡ shift_of true a b → Tells a b (record { plus = true; months = t.months; rest = a - t.at })
-unfolding shift_of rest_of
-tells_plus a b t A B h e = tells a b _ A B (rw e (sym (span_plus a b h)))
-
-pub tells_minus : (a b : ℕ) (t : Shift) → InRange a → InRange b → a < b → t ≡ shift_of false a b → Tells a b (record { plus = false; months = t.months; rest = t.at - a })
-unfolding shift_of rest_of
-tells_minus a b t A B h e = tells a b _ A B (rw e (sym (span_minus a b h)))
+pub tells_shift : (a b : ℕ) (t : Shift) → InRange a → InRange b → t ≡ shift_of (leb b a) a b → Toward (leb b a) a t.at → Tells a b (record { plus = leb b a; months = t.months; rest = abs_diff a t.at })
+unfolding shift_of rest_of span
+tells_shift a b t A B e w =
+    let g : abs_diff a t.at ≡ gap (leb b a) t.at a = omega (arith, gap_is (leb b a) t.at a w) in
+    tells a b _ A B (rw (g, e))

@@ -1,13 +1,10 @@
 -- Rules' `back_off`: of n, n - 1, .. 0 the first that does not pass is the greatest that does not. Assumes nothing.
-use mathlib.Core.Path.{◌≡◌, refl, sym}
+use Rattle.std.proofs.Common.{◌≡◌, refl, sym, ◌∙◌, true≢false}
 use mathlib.Core.Bool.{Bool, true, false}
 use Prim.Native.Nat.{ℕ, zero, suc, ◌-◌, ◌≤◌, ◌<◌}
 use native.Mathlib.Omega.{arith}
 use native.Mathlib.Decide.{dec_lt}
 use Rattle.rules.specs.Writing.{back_off}
-
-pub never : (b : Bool) → b ≡ true → b ≡ false → ⊥
-never b t f = let w : ◌≡◌ {A = ℕ} 0 1 = cc in omega arith
 
 module _ (passes : ℕ → Bool) where
   -- one step, by the test
@@ -29,7 +26,7 @@ module _ (passes : ℕ → Bool) where
   stops_at (suc n) h = step_stop n h
 
   pub goes_on : (n : ℕ) → passes 0 ≡ false → passes n ≡ true → (1 ≤ n) × (back_off passes (n - 1) ≡ back_off passes n)
-  goes_on zero z h = absurd (never _ h z)
+  goes_on zero z h = absurd (true≢false (sym h ∙ z))
   goes_on (suc n) z h =
       let e : suc n - 1 ≡ n = omega arith in
       (omega arith, rw e (sym (step_on n h)))
@@ -66,5 +63,5 @@ module _ (passes : ℕ → Bool) where
   greatest n m h e = go (dec_lt (back_off passes n) m)
     where
       go : Dec (back_off passes n < m) → m ≤ back_off passes n
-      go (yes l) = absurd (never _ (above n m l h) e)
+      go (yes l) = absurd (true≢false (sym (above n m l h) ∙ e))
       go (no l) = omega (arith, l)

@@ -1,6 +1,6 @@
 -- Demand 3 in numbers: timediff's answer keeps what is promised, and no other answer does. Assumes nothing.
 use mathlib.Core.Path.{◌≡◌, refl, sym, ◌∙◌}
-use mathlib.Core.Bool.{Bool, true, false}
+use mathlib.Core.Bool.{Bool, true, false, true≢false}
 use Prim.Native.Nat.{ℕ, ◌≤◌, ◌<◌}
 use native.Mathlib.Omega.{arith}
 use native.Mathlib.Decide.{dec_lt}
@@ -12,7 +12,6 @@ use Rattle.calendar.specs.Ranges.{InRange}
 use Rattle.timediff.specs.Promise.{StandsFor, put_back, Promise}
 use Rattle.timediff.specs.Spans.{moved, gap, Toward, between, months_of, rest_of, span}
 use Rattle.timediff.specs.declared.Span.{Span}
-use Rattle.timediff.proofs.BackOff.{never}
 use Rattle.timediff.proofs.Shifts.{month_order, none}
 use Rattle.timediff.proofs.Numbers as numbers
 use Rattle.timediff.proofs.Answer.{toward, days_high}
@@ -53,7 +52,7 @@ module _ (a b : ℕ) (A : InRange a) (B : InRange b) (p : Moment) (h : StandsFor
     where
       go : Dec (a < b) → false ≡ leb b a
       go (yes k) = sym (lt-leb b a k)
-      go (no k) = let z : n ≡ 0 = omega (arith, k, month_order b a B A (omega (arith, k))) in absurd (never false (e (omega (arith, k, at_home false, rw z at t))) refl)
+      go (no k) = let z : n ≡ 0 = omega (arith, k, month_order b a B A (omega (arith, k))) in absurd (true≢false (sym (e (omega (arith, k, at_home false, rw z at t)))))
 
   -- two answers that keep the promise are one
   pub only : (s : Span) → Promise a b p s → s ≡ span a b

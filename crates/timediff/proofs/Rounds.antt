@@ -3,6 +3,7 @@ use mathlib.Core.Path.{◌≡◌, refl, sym, ◌∙◌, ap}
 use mathlib.Core.Bool.{Bool, true, false}
 use Prim.Native.Nat.{ℕ, ◌+◌, ◌-◌, ◌/◌, ◌%◌, ◌≤◌}
 use native.Mathlib.Omega.{arith}
+use Rattle.std.specs.Int.{abs_diff}
 use Rattle.rules.specs.Calendar.{midnight, time_of_day, civil}
 use Rattle.rules.specs.Writing.{month_of, in_month, back_off}
 use Rattle.rules.specs.declared.Ymd.{Ymd}
@@ -11,7 +12,7 @@ use Rattle.calendar.proofs.Counting.{month_day}
 use Rattle.timediff.specs.Spans.{moved, gap, past, Toward, month_at, shifted, passes, between, months_of, shift_of}
 use Rattle.timediff.specs.declared.Shift.{Shift}
 use Rattle.timediff.proofs.BackOff as off
-use Rattle.timediff.proofs.Shifts.{date, month_low, month_high, none_stays, years}
+use Rattle.timediff.proofs.Shifts.{gap_is, date, month_low, month_high, ordered, none_stays, years}
 use Rattle.timediff.proofs.Numbers.{stays, two_suffice}
 
 -- what stands before the loop, with n₀ months to start at
@@ -29,14 +30,22 @@ pub record Round (plus : Bool) (a b n₀ n : ℕ) : Type 0 where
   pub up_to : n ≤ n₀
   pub same : back_off (passes plus a b) n ≡ back_off (passes plus a b) n₀
 
--- the code's calendar months, and where it starts
+-- the code's calendar month of an instant
 pub month_is : (t : ℕ) {k : ℕ} {d : Ymd} → d ≡ civil t → k ≡ month_of d → k ≡ month_at t
 unfolding month_at
 month_is t e f = f ∙ ap month_of e
 
-pub start_at_lem : (plus : Bool) (a b : ℕ) {from to n : ℕ} → from ≡ month_at b → to ≡ month_at a → n ≡ gap plus from to → n ≡ between plus a b
+pub begun : {plus : Bool} {a b time from to n : ℕ} {d : Ymd} → InRange a → InRange b → Toward plus a b → d ≡ civil b → time ≡ time_of_day b → from ≡ month_at b → to ≡ month_at a → n ≡ abs_diff from to → Begun plus a b d time from n
 unfolding between
-start_at_lem plus a b e f g = g ∙ rw (e, f)
+begun {plus} {a} {b} A B w date time from to n = record {
+  A = A;
+  B = B;
+  way = w;
+  date_is = date;
+  time_is = time;
+  from_is = from;
+  start_is = n ∙ rw (from, to) (gap_is plus (month_at b) (month_at a) (ordered plus a b A B w));
+}
 
 pub first_round : {plus : Bool} {a b n : ℕ} → Round plus a b n n
 first_round = record { up_to = omega arith; same = refl }

@@ -5,6 +5,7 @@ use Prim.Native.Nat.{ℕ, suc, ◌+◌, ◌-◌, ◌*◌, ◌/◌, ◌≤◌, �
 use native.Mathlib.Omega.{arith}
 use native.Mathlib.Decide.{dec_lt}
 use borrow.Author.Tests.{ltb-true, ltb-false, le-ltb}
+use Rattle.std.specs.Int.{abs_diff}
 use Rattle.rules.specs.Calendar.{minus_year, year, day_length, start, midnight, day_of, time_of_day, civil}
 use Rattle.rules.specs.Writing.{in_month}
 use Rattle.calendar.specs.Ranges.{InRange}
@@ -27,6 +28,11 @@ is_within false a x h = ltb-false _ _ h
 pub not_past : (plus : Bool) (a x : ℕ) → Toward plus a x → past plus a x ≡ false
 not_past true a x h = le-ltb _ _ h
 not_past false a x h = le-ltb _ _ h
+
+-- the way is known, so the distance is the one that goes that way
+pub gap_is : (plus : Bool) (x a : ℕ) → Toward plus a x → abs_diff x a ≡ gap plus x a
+gap_is true x a h = omega arith
+gap_is false x a h = omega arith
 
 -- ---- instants by their months
 

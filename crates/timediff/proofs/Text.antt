@@ -33,11 +33,11 @@ length_year : (y : ℕ) → y < 100000 → length (wide 4 y) ≡ year_digits y
 length_year y h = go (ltb y 10000) refl
   where
     go : (t : Bool) → ltb y 10000 ≡ t → length (wide 4 y) ≡ (if t then 4 else 5)
-    go true e = length_exact 3 y (omega arith) (ltb-true y 10000 e)
+    go true e = length_exact 3 y (ltb-true y 10000 e)
     go false e = omega (arith, length_wide 4 y, width_five y (ltb-false y 10000 e) h)
 
 length_two : (v : ℕ) → v < 100 → length (wide 2 v) ≡ 2
-length_two v h = length_exact 1 v (omega arith) h
+length_two v h = length_exact 1 v h
 
 pub shift_length : (n rest : ℕ) → n / 12 < 100000 → rest < 31 * day_length → length (shift_text n rest) ≡ year_digits (n / 12) + 19
 unfolding shift_text
@@ -84,7 +84,7 @@ module _ (a b : ℕ) (A : InRange a) (B : InRange b) where
 
 shift_parts : (n t : ℕ) → shift_text n t ≡ (wide 4 (n / 12) ++ (45 ∷ wide 2 (n % 12))) ++ rest_part t
 unfolding shift_text
-shift_parts n t = let e : places 3 t ≡ wide 3 (t % 1000) = sym (wide_low 2 t (omega arith)) in rw e (simp append_assoc)
+shift_parts n t = let e : places 3 t ≡ wide 3 (t % 1000) = sym (wide_low 2 t) in rw e (simp append_assoc)
 
 pub span_parts : (s : Span) → span_text s ≡ months_part s.plus s.months ++ rest_part s.rest
 unfolding span_text

@@ -1,7 +1,7 @@
 // timediff: how far, and which way, B is moved to reach A, in numbers and as a text. Whole months come first, then the milliseconds that
 // are left.
 //
-// A and B are instants from the millisecond 0 to the last, held as rules holds them. A calendar month is one number, year * 12 + month - 1:
+// A and B are instants, from the millisecond 0 to the last. A calendar month is one number, year * 12 + month - 1:
 // November -4713, which holds the millisecond 0, is 423454 and December 9999 is 599999.
 //
 // B, moved by the months from its calendar month to A's, may lie past A: then the shift is backed off, one month at a time. Two back-offs
@@ -14,11 +14,12 @@
 ghost use Rattle.std.specs.Prelude.{◌≡◌, ◌+◌, ◌*◌, ◌/◌, ◌%◌, ◌≤◌, ◌<◌, length};
 ghost use Rattle.rules.specs.Calendar.{day_length, midnight};
 ghost use Rattle.rules.specs.Writing.{wide, month_of};
-ghost use Rattle.calendar.specs.Ranges.{Countable, InRange};
+ghost use Rattle.calendar.specs.Ranges.{Countable};
 ghost use Rattle.digits.specs.Writers.{Room, Laid};
-ghost use Rattle.timediff.specs.Spans.{moved, gap, past, between, shift_of, Toward, Tells, span_text, Writable, sign_byte, months_part, rest_part};
+ghost use Rattle.timediff.specs.Spans.{moved, past, between, shift_of, Toward, Tells, span_text, Writable, sign_byte, months_part, rest_part};
 
-use digits::{put_byte, put_four, put_next, put_number, put_three};
+use calendar::Instant;
+use digits::{put_byte, put_digits, put_next, put_number};
 use rules::Ymd;
 
 // What timediff writes: the sign, the months and, in milliseconds, the rest, which is less than 31 days.
@@ -44,14 +45,6 @@ fn month_of(date: Ymd) -> u32
     date.year * 12 + (date.month - 1)
 }
 
-// The months from one calendar month forward, or backward, to another.
-fn months_between(plus: bool, from: u32, to: u32) -> u32
-    requires { Toward plus to from }
-    ensures { result ≡ gap plus from to }
-{
-    if plus { to - from } else { from - to }
-}
-
 // A calendar month moved forward, or backward, by n.
 fn moved(plus: bool, month: u32, n: u32) -> u32
     requires { (n ≤ month) × (month ≤ 599999) }
@@ -66,7 +59,12 @@ fn in_month(month: u32, day: u32, time: u32) -> u64
     requires time_bound { time < 86400000 }
     ensures { result ≡ midnight (month / 12) (month % 12 + 1) day + time }
 {
-    calendar::midnight(month / 12, month % 12 + 1, day) + time as u64
+    let date = Ymd {
+        year: month / 12,
+        month: month % 12 + 1,
+        day,
+    };
+    calendar::midnight(date) + u64::from(time)
 }
 
 // Whether an instant lies past A.
@@ -78,18 +76,18 @@ fn is_past(plus: bool, a: u64, at: u64) -> bool
 
 // "The shift starts at the months from B's calendar month to A's .., is backed off one month at a time and stops at the first that does
 // not pass."
-fn back_off(plus: bool, a: u64, b: u64) -> Shift
-    requires { InRange a × InRange b × Toward plus a b }
-    ensures { (result ≡ shift_of plus a b) × Toward plus a result.at × (between plus a b ≤ result.months + 2) }
+fn back_off(plus: bool, a: Instant, b: Instant) -> Shift
+    requires { Toward plus a.ms b.ms }
+    ensures { (result ≡ shift_of plus a.ms b.ms) × Toward plus a.ms result.at × (between plus a.ms b.ms ≤ result.months + 2) }
 {
-    let date = calendar::civil(b);
-    let time = calendar::time_of_day(b);
+    let date = b.civil();
+    let time = calendar::time_of_day(b.ms);
     let from = month_of(date);
-    let to = month_of(calendar::civil(a));
-    let mut months = months_between(plus, from, to);
+    let to = month_of(a.civil());
+    let mut months = from.abs_diff(to);
     loop {
         let at = in_month(moved(plus, from, months), date.day, time);
-        if !is_past(plus, a, at) {
+        if !is_past(plus, a.ms, at) {
             break Shift { months, at };
         }
         months -= 1;
@@ -97,24 +95,15 @@ fn back_off(plus: bool, a: u64, b: u64) -> Shift
 }
 
 // How far it is from B to A. "The sign is plus if A is not before B."
-pub fn difference(a: u64, b: u64) -> Span
-    requires { InRange a × InRange b }
-    ensures { Tells a b result }
+pub fn difference(a: Instant, b: Instant) -> Span
+    ensures { Tells a.ms b.ms result }
 {
-    if b <= a {
-        let shift = back_off(true, a, b);
-        Span {
-            plus: true,
-            months: shift.months,
-            rest: a - shift.at,
-        }
-    } else {
-        let shift = back_off(false, a, b);
-        Span {
-            plus: false,
-            months: shift.months,
-            rest: shift.at - a,
-        }
+    let plus = b.ms <= a.ms;
+    let shift = back_off(plus, a, b);
+    Span {
+        plus,
+        months: shift.months,
+        rest: a.ms.abs_diff(shift.at),
     }
 }
 
@@ -132,7 +121,7 @@ fn put_years(buf: &mut [u8], at: usize, years: u32) -> usize
     ensures { Laid buf.old at (wide 4 years) buf.new result }
 {
     if years < 10000 {
-        return put_four(buf, at, years);
+        return put_digits::<4>(buf, at, years);
     }
     put_number(buf, at, 4, years as u64)
 }
@@ -158,7 +147,7 @@ fn put_rest(buf: &mut [u8], at: usize, rest: u32) -> usize
     let before_second = put_next(buf, before_minute, b':', rest / 60000 % 60);
     let point = put_next(buf, before_second, b':', rest / 1000 % 60);
     let thousandths = put_byte(buf, point, b'.');
-    put_three(buf, thousandths, rest % 1000)
+    put_digits::<3>(buf, thousandths, rest % 1000)
 }
 
 // The text of a span. Its rest, less than 31 days, fits 32 bits.
@@ -172,6 +161,7 @@ pub fn put_span(buf: &mut [u8], at: usize, s: Span) -> usize
 }
 
 // How many bytes `put_span` takes: "24 bytes, 25 with a five-digit year".
+#[tactic(auto, using(crate::proofs::Text::span_24, crate::proofs::Text::span_25))]
 pub fn span_length(s: Span) -> usize
     requires { Writable s }
     ensures { (result ≡ length (span_text s)) × (result ≤ 25) }

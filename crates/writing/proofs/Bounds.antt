@@ -1,20 +1,17 @@
 -- The bound of a format: the sum of its letters' bounds, one for any other byte. Assumes nothing.
-use Prim.Native.Nat.{ℕ, suc, ◌+◌, ◌*◌, ◌≤◌, ◌<◌}
-use Rattle.std.specs.Prelude.{if◌then◌else◌}
+use Prim.Native.Nat.{ℕ, ◌+◌, ◌*◌, ◌≤◌}
+use Rattle.std.specs.Prelude.{if◌then◌else◌, Result, Ok, Err}
 use Prim.Native.Char.{Char}
 use mathlib.Core.Bool.{Bool, true, false, ◌&&◌}
 use mathlib.Core.Path.{◌≡◌, refl, sym, ap, ◌∙◌}
 use mathlib.Core.List.{List, [], ◌∷◌}
 use native.Mathlib.Omega.{arith}
-use native.Mathlib.Numerals.{add-one}
 use borrow.Author.Tests.{eq-eqb, ne_eqb}
 use lib.Dec.{T, leb, leb→le}
-use lib.ListN.{length, get_or, drop, drop_of_length-le}
-use lib.Seq.{drop-cons}
+use lib.ListN.{length}
 use Rattle.rules.specs.Basics.{is, Read, got, other, refuse}
+use Rattle.rules.specs.declared.Refusal.{Refusal}
 use Rattle.writing.specs.Formats.{CheckIs, mosts, most_in, most, most_of}
-use Rattle.writing.specs.declared.Checked.{Checked}
-use Rattle.writing.specs.declared.Checked.TheVariants.{Most, Refused}
 use Rattle.writing.proofs.Cases.{and_both}
 
 -- ---- no letter's bound is over 17
@@ -36,29 +33,14 @@ unfolding most mosts
 most_few b = few_in mosts b tt
 
 -- ---- one step
-bound_byte : (b : ℕ) (s : List ℕ) → (b ≡ 37 → ⊥) → most_of (b ∷ s) ≡ 1 + most_of s
+pub bound_byte : (b : ℕ) (s : List ℕ) → (b ≡ 37 → ⊥) → most_of (b ∷ s) ≡ 1 + most_of s
 unfolding most_of
 bound_byte b [] n = refl
 bound_byte b (c ∷ s) n = rw (ne_eqb 37 b (λ e. n (sym e)))
 
-bound_pair : (b c : ℕ) (s : List ℕ) → b ≡ 37 → most_of (b ∷ c ∷ s) ≡ most c + most_of s
+pub bound_pair : (b c : ℕ) (s : List ℕ) → b ≡ 37 → most_of (b ∷ c ∷ s) ≡ most c + most_of s
 unfolding most_of
 bound_pair b c s e = rw (eq-eqb 37 b (sym e))
-
-module _ (f : List ℕ) (i : ℕ) where
-  pub bound_plain : i < length f → (get_or f i 0 ≡ 37 → ⊥) → most_of (drop i f) ≡ 1 + most_of (drop (i + 1) f)
-  bound_plain h n = rw (add-one i, drop-cons f i 0 h) (bound_byte (get_or f i 0) (drop (suc i) f) n)
-
-  pub bound_letter : i + 1 < length f → get_or f i 0 ≡ 37 → most_of (drop i f) ≡ most (get_or f (i + 1) 0) + most_of (drop (i + 2) f)
-  bound_letter h e =
-      let h₀ : i < length f = omega arith in
-      let h₁ : suc i < length f = omega arith in
-      let two : i + 2 ≡ suc (suc i) = omega arith in
-      rw (add-one i, two, drop-cons f i 0 h₀, drop-cons f (suc i) 0 h₁) (bound_pair (get_or f i 0) (get_or f (suc i) 0) (drop (suc (suc i)) f) e)
-
-  pub bound_end : length f ≤ i → most_of (drop i f) ≡ 0
-  unfolding most_of
-  bound_end h = rw (drop_of_length-le f {i = i} h) refl
 
 -- ---- the whole
 pub bound_few : (f : List ℕ) → most_of f ≤ 17 * length f
@@ -72,11 +54,11 @@ bound_few (b ∷ c ∷ s) = go (is "%" b) (bound_few s) (bound_few (c ∷ s))
     go false h k = omega (arith, k)
 
 -- two answers of `check` that its contract allows are the same
-pub check_one : (r : Read (List ℕ)) (bound : ℕ) (a b : Checked) → CheckIs r bound a → CheckIs r bound b → a ≡ b
-check_one (got s) bound (Most n) (Most m) h k = ap Most (h.1 ∙ sym k.1)
-check_one (got s) bound (Most n) (Refused y) h k = absurd k
-check_one (got s) bound (Refused x) b h k = absurd h
+pub check_one : (r : Read (List ℕ)) (bound : ℕ) (a b : Result ℕ Refusal) → CheckIs r bound a → CheckIs r bound b → a ≡ b
+check_one (got s) bound (Ok n) (Ok m) h k = ap Ok (h.1 ∙ sym k.1)
+check_one (got s) bound (Ok n) (Err y) h k = absurd k
+check_one (got s) bound (Err x) b h k = absurd h
 check_one other bound a b h k = absurd h
-check_one (refuse z) bound (Most n) b h k = absurd h
-check_one (refuse z) bound (Refused x) (Most m) h k = absurd k
-check_one (refuse z) bound (Refused x) (Refused y) h k = ap Refused (h ∙ sym k)
+check_one (refuse z) bound (Ok n) b h k = absurd h
+check_one (refuse z) bound (Err x) (Ok m) h k = absurd k
+check_one (refuse z) bound (Err x) (Err y) h k = ap Err (h ∙ sym k)

@@ -1,13 +1,10 @@
--- A format, gone through from its first byte on. Assumes nothing.
-use Prim.Native.Nat.{ℕ, suc, ◌+◌, ◌≤◌, ◌<◌}
+-- A format, gone through from its first byte on: what it writes so far, and what its rest is. Assumes nothing.
+use Prim.Native.Nat.{ℕ, ◌<◌}
 use mathlib.Core.Path.{◌≡◌, refl, sym, ap, ◌∙◌}
 use mathlib.Core.List.{List, [], ◌∷◌, ◌++◌, append_assoc, append-nil}
 use native.Mathlib.Omega.{arith}
-use native.Mathlib.Numerals.{add-one}
-use native.Mathlib.Decide.{ℕ_discrete}
 use borrow.Author.Tests.{eq-eqb, ne_eqb}
-use lib.ListN.{length, get_or, drop, drop_of_length-le}
-use lib.Seq.{drop-cons}
+use lib.ListN.{length}
 use Rattle.rules.specs.Basics.{Read, got, other, refuse}
 use Rattle.rules.specs.Moments.{Moment}
 use Rattle.rules.specs.Writing.{letter, before, formatted}
@@ -55,68 +52,54 @@ last : (p : Moment) (b : ℕ) → b ≡ 37 → formatted p (b ∷ []) ≡ refuse
 unfolding formatted
 last p b e = rw (eq-eqb 37 b (sym e))
 
-module _ (p : Moment) (f : List ℕ) where
-  -- the first i bytes of the format are passed, and `done` is what they write
-  pub record Passed (i : ℕ) (done : List ℕ) : Type 0 where
-    pub is : formatted p f ≡ before (got done) (formatted p (drop i f))
+-- a format is passed up to its rest, and `done` is what it writes so far
+pub record Passed (p : Moment) (f rest done : List ℕ) : Type 0 where
+  pub is : formatted p f ≡ before (got done) (formatted p rest)
 
-  pub passed_start : Passed 0 []
-  passed_start = record { is = before_none (formatted p f) }
+pub passed_plain : {p : Moment} {f : List ℕ} {b : ℕ} {s done : List ℕ} → (b ≡ 37 → ⊥) → Passed p f (b ∷ s) done → Passed p f s (done ++ (b ∷ []))
+passed_plain {p} {f} {b} {s} {done} n here = record { is = here.is ∙ ap (before (got done)) (plain p b s n) ∙ before_assoc done (b ∷ []) (formatted p s) }
 
-  module _ (i : ℕ) (done : List ℕ) (here : Passed i done) where
-    at_plain : i < length f → (get_or f i 0 ≡ 37 → ⊥) → formatted p (drop i f) ≡ before (got (get_or f i 0 ∷ [])) (formatted p (drop (i + 1) f))
-    at_plain h n = rw (add-one i, drop-cons f i 0 h) (plain p (get_or f i 0) (drop (suc i) f) n)
+module _ {p : Moment} {f : List ℕ} {b c : ℕ} {s done : List ℕ} where
+  at_letter : {r : Read (List ℕ)} → b ≡ 37 → Passed p f (b ∷ c ∷ s) done → letter c p ≡ r → formatted p f ≡ before (got done) (before r (formatted p s))
+  at_letter {r} e here l = here.is ∙ ap (before (got done)) (lettered p b c s e ∙ ap (λ (r : Read (List ℕ)). before r (formatted p s)) l)
 
-    at_letter : i + 1 < length f → get_or f i 0 ≡ 37 → formatted p (drop i f) ≡ before (letter (get_or f (i + 1) 0) p) (formatted p (drop (i + 2) f))
-    at_letter h e =
-        let h₀ : i < length f = omega arith in
-        let h₁ : suc i < length f = omega arith in
-        let two : i + 2 ≡ suc (suc i) = omega arith in
-        rw (add-one i, two, drop-cons f i 0 h₀, drop-cons f (suc i) 0 h₁) (lettered p (get_or f i 0) (get_or f (suc i) 0) (drop (suc (suc i)) f) e)
+  pub passed_letter : {t : List ℕ} → b ≡ 37 → Passed p f (b ∷ c ∷ s) done → letter c p ≡ got t → Passed p f s (done ++ t)
+  passed_letter {t} e here l = record { is = at_letter e here l ∙ before_assoc done t (formatted p s) }
 
-    at_last : length f ≡ i + 1 → get_or f i 0 ≡ 37 → formatted p (drop i f) ≡ refuse Refusal.Null
-    at_last h e =
-        let h₀ : i < length f = omega arith in
-        rw (drop-cons f i 0 h₀, drop_of_length-le f {i = suc i} (omega arith)) (last p (get_or f i 0) e)
+  pub passed_refused : {x : Refusal} → b ≡ 37 → Passed p f (b ∷ c ∷ s) done → letter c p ≡ refuse x → formatted p f ≡ refuse x
+  passed_refused e here l = at_letter e here l
 
-    pub passed_plain : i < length f → (get_or f i 0 ≡ 37 → ⊥) → Passed (i + 1) (done ++ (get_or f i 0 ∷ []))
-    passed_plain h n = record { is = here.is ∙ ap (before (got done)) (at_plain h n) ∙ before_assoc done (get_or f i 0 ∷ []) (formatted p (drop (i + 1) f)) }
+pub passed_last : {p : Moment} {f done : List ℕ} {b : ℕ} → b ≡ 37 → Passed p f (b ∷ []) done → formatted p f ≡ refuse Refusal.Null
+passed_last {p} {f} {done} {b} e here = here.is ∙ ap (before (got done)) (last p b e)
 
-    pub passed_letter : i + 1 < length f → get_or f i 0 ≡ 37 → (s : List ℕ) → letter (get_or f (i + 1) 0) p ≡ got s → Passed (i + 2) (done ++ s)
-    passed_letter h e s l =
-        record { is = here.is ∙ ap (before (got done)) (at_letter h e ∙ ap (λ (r : Read (List ℕ)). before r (formatted p (drop (i + 2) f))) l) ∙ before_assoc done s (formatted p (drop (i + 2) f)) }
+pub passed_end : {p : Moment} {f done : List ℕ} → Passed p f [] done → formatted p f ≡ got done
+unfolding formatted
+passed_end {p} {f} {done} here = here.is ∙ ap got (append-nil done)
 
-    pub passed_refused : i + 1 < length f → get_or f i 0 ≡ 37 → (x : Refusal) → letter (get_or f (i + 1) 0) p ≡ refuse x → formatted p f ≡ refuse x
-    passed_refused h e x l = here.is ∙ ap (before (got done)) (at_letter h e ∙ ap (λ (r : Read (List ℕ)). before r (formatted p (drop (i + 2) f))) l)
+-- ---- where the whole format is a text
+module _ {p : Moment} {f : List ℕ} (text : IsText (formatted p f)) where
+  left : {s done : List ℕ} → Passed p f s done → Both (got done) (formatted p s) (text_of (formatted p f))
+  left {s} {done} here = both (got done) (formatted p s) (text_of (formatted p f)) (sym here.is ∙ text)
 
-    pub passed_last : length f ≡ i + 1 → get_or f i 0 ≡ 37 → formatted p f ≡ refuse Refusal.Null
-    passed_last h e = here.is ∙ ap (before (got done)) (at_last h e)
+  -- a last byte is no %
+  no_last : {b : ℕ} {done : List ℕ} → Passed p f (b ∷ []) done → b ≡ 37 → ⊥
+  no_last here e = no_text (sym (passed_last e here) ∙ text)
 
-    pub passed_end : length f ≤ i → formatted p f ≡ got done
-    unfolding formatted
-    passed_end h = here.is ∙ rw (drop_of_length-le f {i = i} h) (ap got (append-nil done))
+  -- so a letter follows it
+  pub letter_follows : {b : ℕ} (s : List ℕ) {done : List ℕ} → b ≡ 37 → Passed p f (b ∷ s) done → 0 < length s
+  letter_follows [] e here = absurd (no_last here e)
+  letter_follows (c ∷ s) e here = omega arith
 
-    -- ---- where the whole format is a text
-    module _ (text : IsText (formatted p f)) where
-      left : Both (got done) (formatted p (drop i f)) (text_of (formatted p f))
-      left = both (got done) (formatted p (drop i f)) (text_of (formatted p f)) (sym here.is ∙ text)
+  module _ {b c : ℕ} {s done : List ℕ} (e : b ≡ 37) (here : Passed p f (b ∷ c ∷ s) done) where
+    rest_letter : Both (letter c p) (formatted p s) (text_of (formatted p (b ∷ c ∷ s)))
+    rest_letter = both (letter c p) (formatted p s) (text_of (formatted p (b ∷ c ∷ s))) (sym (lettered p b c s e) ∙ (left here).second)
 
-      pub passed_two : i < length f → get_or f i 0 ≡ 37 → i + 1 < length f
-      passed_two h e = go (ℕ_discrete (length f) (i + 1))
-        where
-          go : Dec (length f ≡ i + 1) → i + 1 < length f
-          go (yes l) = absurd (no_text (sym (at_last l e) ∙ left.second))
-          go (no l) = omega (arith, l)
+    pub letter_text_lem : IsText (letter c p)
+    letter_text_lem = rest_letter.first
 
-      rest_letter : i + 1 < length f → get_or f i 0 ≡ 37 → Both (letter (get_or f (i + 1) 0) p) (formatted p (drop (i + 2) f)) (text_of (formatted p (drop i f)))
-      rest_letter h e = both (letter (get_or f (i + 1) 0) p) (formatted p (drop (i + 2) f)) (text_of (formatted p (drop i f))) (sym (at_letter h e) ∙ left.second)
+    -- what is still to come after the letter, or after the byte
+    pub after_letter : text_of (formatted p f) ≡ done ++ (text_of (letter c p) ++ text_of (formatted p s))
+    after_letter = (left here).joined ∙ ap (λ (s : List ℕ). done ++ s) rest_letter.joined
 
-      pub letter_text_lem : i + 1 < length f → get_or f i 0 ≡ 37 → IsText (letter (get_or f (i + 1) 0) p)
-      letter_text_lem h e = (rest_letter h e).first
-
-      -- what is still to come after the letter, or after the byte
-      pub after_letter : i + 1 < length f → get_or f i 0 ≡ 37 → text_of (formatted p f) ≡ done ++ (text_of (letter (get_or f (i + 1) 0) p) ++ text_of (formatted p (drop (i + 2) f)))
-      after_letter h e = left.joined ∙ ap (λ (s : List ℕ). done ++ s) (rest_letter h e).joined
-
-      pub after_plain : i < length f → (get_or f i 0 ≡ 37 → ⊥) → text_of (formatted p f) ≡ done ++ ((get_or f i 0 ∷ []) ++ text_of (formatted p (drop (i + 1) f)))
-      after_plain h n = left.joined ∙ ap (λ (s : List ℕ). done ++ s) (both (got (get_or f i 0 ∷ [])) (formatted p (drop (i + 1) f)) (text_of (formatted p (drop i f))) (sym (at_plain h n) ∙ left.second)).joined
+  pub after_plain : {b : ℕ} {s done : List ℕ} → (b ≡ 37 → ⊥) → Passed p f (b ∷ s) done → text_of (formatted p f) ≡ done ++ ((b ∷ []) ++ text_of (formatted p s))
+  after_plain {b} {s} {done} n here = (left here).joined ∙ ap (λ (s : List ℕ). done ++ s) (both (got (b ∷ [])) (formatted p s) (text_of (formatted p (b ∷ s))) (sym (plain p b s n) ∙ (left here).second)).joined

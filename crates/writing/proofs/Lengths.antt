@@ -2,48 +2,58 @@
 use Prim.Native.Nat.{ℕ, ◌+◌, ◌≤◌, ◌<◌}
 use Rattle.std.specs.Prelude.{if◌then◌else◌}
 use mathlib.Core.Bool.{Bool, true, false}
-use mathlib.Core.Path.{◌≡◌, refl, ap}
-use mathlib.Core.List.{[], ◌∷◌, ◌++◌}
+use mathlib.Core.Path.{◌≡◌, ap}
+use mathlib.Core.List.{List, [], ◌∷◌, ◌++◌}
 use native.Mathlib.Omega.{arith}
 use lib.Dec.{leb}
-use lib.Ieee.{Float}
 use lib.ListN.{length, length-append}
 use Rattle.rules.specs.Floats.{whole}
-use Rattle.rules.specs.Writing.{wide, signed_year, second_text, three_decimals}
-use Rattle.real.specs.InMinute.{in_minute}
+use Rattle.rules.specs.Moments.{Moment}
+use Rattle.rules.specs.Writing.{wide, signed_year, hour_minute, second_text, three_decimals, integer_text, unix_seconds, unix_text}
 use Rattle.real.proofs.Seconds.{minute_whole}
-use Rattle.calendar.specs.Ranges.{InRange}
+use Rattle.digits.specs.Writers.{unix_decimals}
 use Rattle.digits.proofs.Decimal.{length_exact}
 use Rattle.digits.proofs.Lengths.{length_second, length_decimals, length_seconds}
-use Rattle.writing.specs.Texts.{date_of, clock_of, whole_time, decimal_time, half, unix_of}
+use Rattle.writing.specs.Printable.{Printable}
+use Rattle.writing.specs.Texts.{date_of, whole_time, decimal_time, half}
+use Rattle.writing.proofs.Fields as field
 use Rattle.writing.proofs.Texts.{date_parts, clock_parts}
 
 pub length_two : (v : ℕ) → v < 100 → length (wide 2 v) ≡ 2
-length_two v h = length_exact 1 v (omega arith) h
+length_two v h = length_exact 1 v h
 
-pub length_date : (k y m d : ℕ) → m < 100 → d < 100 → length (date_of k y m d) ≡ length (signed_year k y) + 6
-length_date k y m d a b =
-    let y' = signed_year k y in
-    omega (arith, ap length (date_parts k y m d), length-append (y' ++ (45 ∷ wide 2 m)) (45 ∷ wide 2 d), length-append y' (45 ∷ wide 2 m), length_two m a, length_two d b)
+module _ (p : Moment) where
+  pub length_date : (k : ℕ) → p.month < 100 → p.day < 100 → length (date_of k p) ≡ length (signed_year k p.year) + 6
+  length_date k m d =
+      let year = signed_year k p.year in
+      omega (arith, ap length (date_parts p k), length-append (year ++ (45 ∷ wide 2 p.month)) (45 ∷ wide 2 p.day), length-append year (45 ∷ wide 2 p.month), length_two p.month m, length_two p.day d)
 
-pub length_clock : (h m : ℕ) → h < 100 → m < 100 → length (clock_of h m) ≡ 5
-length_clock h m a b = omega (arith, ap length (clock_parts h m), length-append (wide 2 h) (58 ∷ wide 2 m), length_two h a, length_two m b)
+  pub length_clock : p.hour < 100 → p.minute < 100 → length (hour_minute p) ≡ 5
+  length_clock h m = omega (arith, ap length (clock_parts p), length-append (wide 2 p.hour) (58 ∷ wide 2 p.minute), length_two p.hour h, length_two p.minute m)
 
-module _ (h m : ℕ) (s : Float) (a : h < 100) (b : m < 100) (i : in_minute s ≡ true) where
-  pub length_whole : length (whole_time h m s) ≡ 8
-  length_whole =
-      omega (arith, length-append (clock_of h m ++ (58 ∷ [])) (second_text s), length-append (clock_of h m) (58 ∷ []), length_clock h m a b, length_exact 1 (whole s) (omega arith) (omega (arith, minute_whole s i)))
+  module _ (h : Printable p) where
+    clock : length (hour_minute p) ≡ 5
+    clock = length_clock (field.hour p h) (field.minute p h)
 
-  pub length_decimal : length (decimal_time h m s) ≡ 12
-  length_decimal = omega (arith, length-append (clock_of h m ++ (58 ∷ [])) (three_decimals 2 s), length-append (clock_of h m) (58 ∷ []), length_clock h m a b, length_second s i)
+    pub length_whole : length (whole_time p) ≡ 8
+    length_whole =
+        omega (arith, length-append (hour_minute p ++ (58 ∷ [])) (second_text p.second), length-append (hour_minute p) (58 ∷ []), clock, length_exact 1 (whole p.second) (omega (arith, minute_whole p.second (field.second p h))))
 
-pub length_half : (am pm m h : ℕ) → length (half am pm m h) ≡ 2
-length_half am pm m h = go (leb 12 h)
+    pub length_decimal : length (decimal_time p) ≡ 12
+    length_decimal =
+        omega (arith, length-append (hour_minute p ++ (58 ∷ [])) (three_decimals 2 p.second), length-append (hour_minute p) (58 ∷ []), clock, length_second p.second (field.second p h))
+
+    pub length_unix : length (unix_text p) ≤ 17
+    unfolding unix_text
+    length_unix = go p.subsec
+      where
+        go : (b : Bool) → length (if b then unix_decimals p.ms else integer_text (unix_seconds p.ms)) ≤ 17
+        go true = length_decimals p.ms h.range.from h.range.to
+        go false = omega (arith, length_seconds p.ms h.range.from h.range.to)
+
+pub length_half : (am pm : List ℕ) (hour : ℕ) → length am ≡ 2 → length pm ≡ 2 → length (half am pm hour) ≡ 2
+length_half am pm hour a b = go (leb 12 hour)
   where
-    go : (b : Bool) → length (if b then pm ∷ m ∷ [] else am ∷ m ∷ []) ≡ 2
-    go true = refl
-    go false = refl
-
-pub length_unix : (b : Bool) (t : ℕ) → InRange t → length (unix_of b t) ≤ 17
-length_unix true t r = length_decimals t r.from r.to
-length_unix false t r = omega (arith, length_seconds t r.from r.to)
+    go : (c : Bool) → length (if c then pm else am) ≡ 2
+    go true = b
+    go false = a

@@ -15,7 +15,7 @@ use Rattle.rules.specs.Basics.{is, every, Read, got, refuse, ◌>>=◌}
 use Rattle.rules.specs.Calendar.{instant, day_of_year, since_monday, since_sunday, thursday, iso_week}
 use Rattle.rules.specs.Floats.{whole}
 use Rattle.rules.specs.Moments.{Moment}
-use Rattle.rules.specs.Writing.{wide, signed_year, unix_text, julian_letter, letters, writer, letter, dial}
+use Rattle.rules.specs.Writing.{wide, signed_year, julian_letter, letters, writer, letter, dial}
 use Rattle.rules.specs.declared.Refusal.{Refusal}
 use Rattle.calendar.specs.Ranges.{InRange}
 use Rattle.calendar.proofs.Years.{in_year, year_length_lem, leap_le}
@@ -91,12 +91,8 @@ module _ (p : Moment) (h : Printable p) where
   year_few : length (signed_year 3 p.year) ≤ 5
   year_few = length_year 3 p.year (omega arith) h.years.from h.years.to
 
-  date_few : length (date_of 3 p.year p.month p.day) ≤ 11
-  date_few = omega (arith, year_few, length_date 3 p.year p.month p.day (field.month p h) (field.day p h))
-
-  unix_few : length (unix_text p) ≤ 17
-  unfolding unix_text
-  unix_few = length_unix p.subsec p.ms h.range
+  date_few : length (date_of 3 p) ≤ 11
+  date_few = omega (arith, year_few, length_date p 3 (field.month p h) (field.day p h))
 
   aligned : Aligned p letters mosts
   unfolding letters mosts since_monday since_sunday
@@ -113,22 +109,22 @@ module _ (p : Moment) (h : Printable p) where
       then row tt tt (sometimes 71 5 tt iso_few)
       then row tt tt (two 72 p.hour hour)
       then row tt tt (two 73 (dial p.hour) (dial_high p.hour))
-      then row tt tt (always 106 3 (length_exact 2 (day_of_year p.year p.month p.day + 1) (omega arith) (omega (arith, day_high))))
+      then row tt tt (always 106 3 (length_exact 2 (day_of_year p.year p.month p.day + 1) (omega (arith, day_high))))
       then row tt tt (julian p.ms h.range)
       then row tt tt (always 107 2 (length_spaced p.hour hour))
       then row tt tt (always 108 2 (length_spaced (dial p.hour) (dial_high p.hour)))
       then row tt tt (two 109 p.month (field.month p h))
       then row tt tt (two 77 p.minute minute)
-      then row tt tt (always 112 2 (length_half 65 80 77 p.hour))
-      then row tt tt (always 80 2 (length_half 97 112 109 p.hour))
-      then row tt tt (always 82 5 (length_clock p.hour p.minute hour minute))
-      then row tt tt (sometimes 115 17 tt unix_few)
+      then row tt tt (always 112 2 (length_half (65 ∷ 77 ∷ []) (80 ∷ 77 ∷ []) p.hour refl refl))
+      then row tt tt (always 80 2 (length_half (97 ∷ 109 ∷ []) (112 ∷ 109 ∷ []) p.hour refl refl))
+      then row tt tt (always 82 5 (length_clock p hour minute))
+      then row tt tt (sometimes 115 17 tt (length_unix p h))
       then row tt tt (two 83 (whole p.second) (omega (arith, minute_whole p.second second)))
-      then row tt tt (always 84 8 (length_whole p.hour p.minute p.second hour minute second))
-      then row tt tt (always 117 1 (length_exact 0 (since_monday p.ms + 1) (omega arith) (omega arith)))
+      then row tt tt (always 84 8 (length_whole p h))
+      then row tt tt (always 117 1 (length_exact 0 (since_monday p.ms + 1) (omega arith)))
       then row tt tt (two 85 _ (week_few (since_sunday p.ms)))
       then row tt tt (two 86 (iso_week p.ms) (omega (arith, week_high p.ms h.range)))
-      then row tt tt (always 119 1 (length_exact 0 (since_sunday p.ms) (omega arith) (omega arith)))
+      then row tt tt (always 119 1 (length_exact 0 (since_sunday p.ms) (omega arith)))
       then row tt tt (two 87 _ (week_few (since_monday p.ms)))
       then row tt tt (sometimes 89 5 tt year_few)
       then row tt tt (always 37 1 refl)

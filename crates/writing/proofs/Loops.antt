@@ -1,10 +1,10 @@
--- What the three loops over a format know after i of its bytes: a bound of what these write, its length, or that it is written. Assumes nothing.
-use Prim.Native.Nat.{ℕ, ◌+◌, ◌*◌, ◌≤◌, ◌<◌}
+-- What the three loops over a format know of its rest: a bound of what was passed, its length, or that it is written. Assumes nothing.
+use Prim.Native.Nat.{ℕ, ◌+◌, ◌*◌, ◌≤◌}
 use mathlib.Core.Path.{◌≡◌, refl, sym, ap, ◌∙◌}
 use mathlib.Core.List.{List, [], ◌∷◌, ◌++◌}
 use native.Mathlib.Omega.{arith}
-use native.Mathlib.Nat.{add-zero}
-use lib.ListN.{length, get_or, drop, length-append}
+use lib.ListN.{length, length-append}
+use Rattle.std.specs.Prelude.{Ok, Err}
 use Rattle.rules.specs.Basics.{Read, got, other, refuse}
 use Rattle.rules.specs.Moments.{Moment}
 use Rattle.rules.specs.Writing.{letter, formatted}
@@ -12,10 +12,8 @@ use Rattle.rules.specs.declared.Refusal.{Refusal}
 use Rattle.digits.specs.Writers.{Room, Laid}
 use Rattle.digits.proofs.Buffer.{room_as, room_first, room_then, laid_then}
 use Rattle.writing.specs.Formats.{text_of, IsText, PutIs, CheckIs, most, most_of}
-use Rattle.writing.specs.declared.Put.TheVariants as put
-use Rattle.writing.specs.declared.Checked.TheVariants as checked
-use Rattle.writing.proofs.Formats.{Passed, passed_start, passed_plain, passed_letter, passed_refused, passed_last, passed_end, passed_two, letter_text_lem, after_letter, after_plain}
-use Rattle.writing.proofs.Bounds.{most_few, bound_plain, bound_letter, bound_end}
+use Rattle.writing.proofs.Formats.{Passed, passed_plain, passed_letter, passed_refused, passed_last, passed_end, letter_text_lem, after_letter, after_plain}
+use Rattle.writing.proofs.Bounds.{bound_byte, bound_pair, bound_few}
 
 -- ---- check
 record Most (r : Read (List ℕ)) (bound n : ℕ) : Type 0 where
@@ -23,110 +21,107 @@ record Most (r : Read (List ℕ)) (bound n : ℕ) : Type 0 where
   short : length (text_of r) ≤ n
   exact : n ≡ bound
 
-a_most : (r : Read (List ℕ)) (bound n : ℕ) → CheckIs r bound (checked.Most n) → Most r bound n
+a_most : (r : Read (List ℕ)) (bound n : ℕ) → CheckIs r bound (Ok n) → Most r bound n
 a_most (got s) bound n h = record { text = refl; short = h.0; exact = h.1 }
 a_most other bound n h = absurd h
 a_most (refuse x) bound n h = absurd h
 
-a_refusal : (r : Read (List ℕ)) (bound : ℕ) (x : Refusal) → CheckIs r bound (checked.Refused x) → r ≡ refuse x
+a_refusal : (r : Read (List ℕ)) (bound : ℕ) (x : Refusal) → CheckIs r bound (Err x) → r ≡ refuse x
 a_refusal (got s) bound x h = absurd h
 a_refusal other bound x h = absurd h
 a_refusal (refuse y) bound x h = ap refuse (sym h)
 
-module _ (p : Moment) (f : List ℕ) where
-  pub record Bounded (i sum : ℕ) : Type 0 where
-    pub done : List ℕ
-    pub passed : Passed p f i done
-    pub inside : i ≤ length f
-    pub short : length done ≤ sum
-    pub few : sum ≤ 17 * i
-    pub exact : most_of f ≡ sum + most_of (drop i f)
+pub record Bounded (p : Moment) (f rest : List ℕ) (sum : ℕ) : Type 0 where
+  pub done : List ℕ
+  pub passed : Passed p f rest done
+  pub short : length done ≤ sum
+  pub exact : most_of f ≡ sum + most_of rest
 
-  pub bounded_start : Bounded 0 0
-  bounded_start = record { done = []; passed = passed_start p f; inside = omega arith; short = omega arith; few = omega arith; exact = omega arith }
+-- so the sum fits, as the whole bound does
+pub bounded_fits : {p : Moment} {f rest : List ℕ} {sum : ℕ} → Bounded p f rest sum → sum ≤ 17 * length f
+bounded_fits {p} {f} so = omega (arith, so.exact, bound_few f)
 
-  module _ (i sum : ℕ) (so : Bounded i sum) where
-    pub bounded_plain : i < length f → (get_or f i 0 ≡ 37 → ⊥) → Bounded (i + 1) (sum + 1)
-    bounded_plain h n = record { done = so.done ++ (get_or f i 0 ∷ []); passed = passed_plain p f i so.done so.passed h n; inside = omega arith; short = omega (arith, length-append so.done (get_or f i 0 ∷ []), so.short); few = omega (arith, so.few); exact = omega (arith, so.exact, bound_plain f i h n) }
+pub bounded_plain : {p : Moment} {f s : List ℕ} {b sum : ℕ} → (b ≡ 37 → ⊥) → Bounded p f (b ∷ s) sum → Bounded p f s (sum + 1)
+bounded_plain {p} {f} {s} {b} {sum} n so = record {
+  done = so.done ++ (b ∷ []);
+  passed = passed_plain n so.passed;
+  short = omega (arith, length-append so.done (b ∷ []), so.short);
+  exact = omega (arith, so.exact, bound_byte b s n);
+}
 
-    pub bounded_letter : i + 1 < length f → get_or f i 0 ≡ 37 → (n : ℕ) → CheckIs (letter (get_or f (i + 1) 0) p) (most (get_or f (i + 1) 0)) (checked.Most n) → Bounded (i + 2) (sum + n)
-    bounded_letter h e n c =
-        let b = get_or f (i + 1) 0 in
-        let r = letter b p in
-        let m = a_most r (most b) n c in
-        record { done = so.done ++ text_of r; passed = passed_letter p f i so.done so.passed h e (text_of r) m.text; inside = omega arith; short = omega (arith, length-append so.done (text_of r), so.short, m.short); few = omega (arith, so.few, m.exact, most_few b); exact = omega (arith, so.exact, m.exact, bound_letter f i h e) }
+module _ {p : Moment} {f s : List ℕ} {b c sum : ℕ} (e : b ≡ 37) (so : Bounded p f (b ∷ c ∷ s) sum) where
+  pub bounded_letter : (n : ℕ) → CheckIs (letter c p) (most c) (Ok n) → Bounded p f s (sum + n)
+  bounded_letter n h =
+      let m = a_most (letter c p) (most c) n h in
+      record {
+        done = so.done ++ text_of (letter c p);
+        passed = passed_letter e so.passed m.text;
+        short = omega (arith, length-append so.done (text_of (letter c p)), so.short, m.short);
+        exact = omega (arith, so.exact, m.exact, bound_pair b c s e);
+      }
 
-    pub bounded_refused : i + 1 < length f → get_or f i 0 ≡ 37 → (x : Refusal) (bound : ℕ) → CheckIs (letter (get_or f (i + 1) 0) p) (most (get_or f (i + 1) 0)) (checked.Refused x) → CheckIs (formatted p f) bound (checked.Refused x)
-    bounded_refused h e x bound c = let b = get_or f (i + 1) 0 in rw (passed_refused p f i so.done so.passed h e x (a_refusal (letter b p) (most b) x c)) refl
+  pub bounded_refused : (x : Refusal) (bound : ℕ) → CheckIs (letter c p) (most c) (Err x) → CheckIs (formatted p f) bound (Err x)
+  bounded_refused x bound h = rw (passed_refused e so.passed (a_refusal (letter c p) (most c) x h)) refl
 
-    pub bounded_last : length f ≡ i + 1 → get_or f i 0 ≡ 37 → (bound : ℕ) → CheckIs (formatted p f) bound (checked.Refused Refusal.Null)
-    bounded_last h e bound = rw (passed_last p f i so.done so.passed h e) refl
+pub bounded_last : {p : Moment} {f : List ℕ} {b sum : ℕ} (bound : ℕ) → b ≡ 37 → Bounded p f (b ∷ []) sum → CheckIs (formatted p f) bound (Err Refusal.Null)
+bounded_last bound e so = rw (passed_last e so.passed) refl
 
-    pub bounded_end : length f ≤ i → CheckIs (formatted p f) (most_of f) (checked.Most sum)
-    bounded_end h = rw (passed_end p f i so.done so.passed h) (so.short, omega (arith, so.exact, bound_end f i h))
+pub bounded_end : {p : Moment} {f : List ℕ} {sum : ℕ} → Bounded p f [] sum → CheckIs (formatted p f) (most_of f) (Ok sum)
+unfolding most_of
+bounded_end so = rw (passed_end so.passed) (so.short, omega (arith, so.exact))
 
-  -- ---- format_length
-  pub record Counted (i n : ℕ) : Type 0 where
-    pub done : List ℕ
-    pub passed : Passed p f i done
-    pub inside : i ≤ length f
-    pub exact : n ≡ length done
-    pub few : n ≤ 17 * i
+-- ---- format_length
+pub record Counted (p : Moment) (f rest : List ℕ) (n : ℕ) : Type 0 where
+  pub done : List ℕ
+  pub passed : Passed p f rest done
+  pub exact : n ≡ length done
+  pub few : n + 17 * length rest ≤ 17 * length f
 
-  pub counted_start : Counted 0 0
-  counted_start = record { done = []; passed = passed_start p f; inside = omega arith; exact = refl; few = omega arith }
+pub counted_plain : {p : Moment} {f s : List ℕ} {b n : ℕ} → (b ≡ 37 → ⊥) → Counted p f (b ∷ s) n → Counted p f s (n + 1)
+counted_plain {p} {f} {s} {b} {n} k so = record {
+  done = so.done ++ (b ∷ []);
+  passed = passed_plain k so.passed;
+  exact = omega (arith, length-append so.done (b ∷ []), so.exact);
+  few = omega (arith, so.few);
+}
 
-  module _ (text : IsText (formatted p f)) (i n : ℕ) (so : Counted i n) where
-    pub counted_plain : i < length f → (get_or f i 0 ≡ 37 → ⊥) → Counted (i + 1) (n + 1)
-    counted_plain h k = record { done = so.done ++ (get_or f i 0 ∷ []); passed = passed_plain p f i so.done so.passed h k; inside = omega arith; exact = omega (arith, length-append so.done (get_or f i 0 ∷ []), so.exact); few = omega (arith, so.few) }
+pub counted_letter : {p : Moment} {f s : List ℕ} {b c n m : ℕ} → IsText (formatted p f) → b ≡ 37 → Counted p f (b ∷ c ∷ s) n → m ≡ length (text_of (letter c p)) → m ≤ 17 → Counted p f s (n + m)
+counted_letter {p} {f} {s} {b} {c} {n} {m} text e so l few = record {
+  done = so.done ++ text_of (letter c p);
+  passed = passed_letter e so.passed (letter_text_lem text e so.passed);
+  exact = omega (arith, length-append so.done (text_of (letter c p)), so.exact);
+  few = omega (arith, so.few);
+}
 
-    pub counted_two : i < length f → get_or f i 0 ≡ 37 → i + 1 < length f
-    counted_two h e = passed_two p f i so.done so.passed text h e
+pub counted_end : {p : Moment} {f : List ℕ} {n : ℕ} → Counted p f [] n → n ≡ length (text_of (formatted p f))
+counted_end so = so.exact ∙ sym (ap (λ (r : Read (List ℕ)). length (text_of r)) (passed_end so.passed))
 
-    pub counted_letter : i < length f → get_or f i 0 ≡ 37 → (m : ℕ) → m ≡ length (text_of (letter (get_or f (i + 1) 0) p)) → m ≤ 17 → Counted (i + 2) (n + m)
-    counted_letter h e m l few =
-        let r = letter (get_or f (i + 1) 0) p in
-        let t = counted_two h e in
-        record { done = so.done ++ text_of r; passed = passed_letter p f i so.done so.passed t e (text_of r) (letter_text_lem p f i so.done so.passed text t e); inside = omega arith; exact = omega (arith, length-append so.done (text_of r), so.exact); few = omega (arith, so.few) }
+-- ---- put_format
+pub record Written (p : Moment) (f old : List ℕ) (at : ℕ) (rest new : List ℕ) (next : ℕ) : Type 0 where
+  pub done : List ℕ
+  pub passed : Passed p f rest done
+  pub laid : Laid old at done new next
 
-    pub counted_end : length f ≤ i → n ≡ length (text_of (formatted p f))
-    counted_end h = so.exact ∙ sym (ap (λ (r : Read (List ℕ)). length (text_of r)) (passed_end p f i so.done so.passed h))
+module _ {p : Moment} {f old : List ℕ} {at : ℕ} {s new : List ℕ} {b next : ℕ} (n : b ≡ 37 → ⊥) (so : Written p f old at (b ∷ s) new next) where
+  pub room_plain : IsText (formatted p f) → Room old at (text_of (formatted p f)) → Room new next (b ∷ [])
+  room_plain text room = room_first (b ∷ []) _ (room_then so.laid (room_as (after_plain text n so.passed) room))
 
-  -- ---- put_format
-  module _ (old : List ℕ) (at : ℕ) where
-    pub record Written (new : List ℕ) (i next : ℕ) : Type 0 where
-      pub done : List ℕ
-      pub passed : Passed p f i done
-      pub inside : i ≤ length f
-      pub laid : Laid old at done new next
+  pub written_plain : {new' : List ℕ} {o : ℕ} → Laid new next (b ∷ []) new' o → Written p f old at s new' o
+  written_plain l = record { done = so.done ++ (b ∷ []); passed = passed_plain n so.passed; laid = laid_then so.laid l }
 
-    pub written_start : Written old 0 at
-    written_start = record { done = []; passed = passed_start p f; inside = omega arith; laid = record { place = sym (add-zero at); bytes = refl } }
+module _ {p : Moment} {f old : List ℕ} {at : ℕ} {s new : List ℕ} {b c next : ℕ} (text : IsText (formatted p f)) (e : b ≡ 37) (so : Written p f old at (b ∷ c ∷ s) new next) where
+  pub room_letter : Room old at (text_of (formatted p f)) → Room new next (text_of (letter c p))
+  room_letter room = room_first _ _ (room_then so.laid (room_as (after_letter text e so.passed) room))
 
-    module _ (text : IsText (formatted p f)) (room : Room old at (text_of (formatted p f))) (new : List ℕ) (i next : ℕ) (so : Written new i next) where
-      pub room_plain : i < length f → (get_or f i 0 ≡ 37 → ⊥) → Room new next (get_or f i 0 ∷ [])
-      room_plain h n = room_first (get_or f i 0 ∷ []) _ (room_then so.laid (room_as (after_plain p f i so.done so.passed text h n) room))
+  pub written_letter : (new' : List ℕ) (o : ℕ) → PutIs (letter c p) new next new' (Ok o) → Written p f old at s new' o
+  written_letter new' o l =
+      let is = letter_text_lem text e so.passed in
+      let here : Laid new next (text_of (letter c p)) new' o = rw is at l in
+      record { done = so.done ++ text_of (letter c p); passed = passed_letter e so.passed is; laid = laid_then so.laid here }
 
-      pub written_plain : i < length f → (get_or f i 0 ≡ 37 → ⊥) → (new' : List ℕ) (o : ℕ) → Laid new next (get_or f i 0 ∷ []) new' o → Written new' (i + 1) o
-      written_plain h n new' o l = record { done = so.done ++ (get_or f i 0 ∷ []); passed = passed_plain p f i so.done so.passed h n; inside = omega arith; laid = laid_then so.laid l }
+  -- a letter is not refused where there is a text
+  pub written_refused : (new' : List ℕ) (x : Refusal) → PutIs (letter c p) new next new' (Err x) → ⊥
+  written_refused new' x l = rw (letter_text_lem text e so.passed) at l
 
-      pub written_two : i < length f → get_or f i 0 ≡ 37 → i + 1 < length f
-      written_two h e = passed_two p f i so.done so.passed text h e
-
-      pub room_letter : i < length f → get_or f i 0 ≡ 37 → Room new next (text_of (letter (get_or f (i + 1) 0) p))
-      room_letter h e = room_first _ _ (room_then so.laid (room_as (after_letter p f i so.done so.passed text (written_two h e) e) room))
-
-      pub written_letter : i < length f → get_or f i 0 ≡ 37 → (new' : List ℕ) (o : ℕ) → PutIs (letter (get_or f (i + 1) 0) p) new next new' (put.At o) → Written new' (i + 2) o
-      written_letter h e new' o l =
-          let t = written_two h e in
-          let r = letter (get_or f (i + 1) 0) p in
-          let is = letter_text_lem p f i so.done so.passed text t e in
-          let here : Laid new next (text_of r) new' o = rw is at l in
-          record { done = so.done ++ text_of r; passed = passed_letter p f i so.done so.passed t e (text_of r) is; inside = omega arith; laid = laid_then so.laid here }
-
-      -- a letter is not refused where there is a text
-      pub written_refused : i < length f → get_or f i 0 ≡ 37 → (new' : List ℕ) (x : Refusal) → PutIs (letter (get_or f (i + 1) 0) p) new next new' (put.Refused x) → ⊥
-      written_refused h e new' x l = rw (letter_text_lem p f i so.done so.passed text (written_two h e) e) at l
-
-      pub written_end : length f ≤ i → PutIs (formatted p f) old at new (put.At next)
-      written_end h = rw (passed_end p f i so.done so.passed h) so.laid
+pub written_end : {p : Moment} {f old : List ℕ} {at : ℕ} {new : List ℕ} {next : ℕ} → Written p f old at [] new next → PutIs (formatted p f) old at new (Ok next)
+written_end so = rw (passed_end so.passed) so.laid

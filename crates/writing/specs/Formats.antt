@@ -1,12 +1,9 @@
 -- What the functions over letters and formats answer.
-use Rattle.std.specs.Prelude.{if◌then◌else◌, ℕ, ◌+◌, ◌≤◌, ◌≡◌, List, [], ◌∷◌, length}
+use Rattle.std.specs.Prelude.{if◌then◌else◌, ℕ, ◌+◌, ◌≤◌, ◌≡◌, List, [], ◌∷◌, length, Result, Ok, Err}
 use Prim.Native.Char.{Char}
 use Rattle.rules.specs.Basics.{is, Read, got, other, refuse}
+use Rattle.rules.specs.declared.Refusal.{Refusal}
 use Rattle.digits.specs.Writers.{Laid}
-use Rattle.writing.specs.declared.Put.{Put}
-use Rattle.writing.specs.declared.Put.TheVariants as put
-use Rattle.writing.specs.declared.Checked.{Checked}
-use Rattle.writing.specs.declared.Checked.TheVariants as checked
 
 -- the text, or none
 abbrev pub text_of : Read (List ℕ) → List ℕ
@@ -19,20 +16,20 @@ abbrev pub IsText : Read (List ℕ) → Type 0
 IsText r = r ≡ got (text_of r)
 
 -- a text is laid; a refusal changes no byte
-abbrev pub PutIs : Read (List ℕ) → List ℕ → ℕ → List ℕ → Put → Type 0
-PutIs (got s) old at new (put.At n) = Laid old at s new n
-PutIs (got s) old at new (put.Refused x) = ⊥
+abbrev pub PutIs : Read (List ℕ) → List ℕ → ℕ → List ℕ → Result ℕ Refusal → Type 0
+PutIs (got s) old at new (Ok n) = Laid old at s new n
+PutIs (got s) old at new (Err x) = ⊥
 PutIs other old at new r = ⊥
-PutIs (refuse y) old at new (put.At n) = ⊥
-PutIs (refuse y) old at new (put.Refused x) = (x ≡ y) × (new ≡ old)
+PutIs (refuse y) old at new (Ok n) = ⊥
+PutIs (refuse y) old at new (Err x) = (x ≡ y) × (new ≡ old)
 
 -- a text of at most n bytes, n being `bound`; or the refusal
-abbrev pub CheckIs : Read (List ℕ) → ℕ → Checked → Type 0
-CheckIs (got s) bound (checked.Most n) = (length s ≤ n) × (n ≡ bound)
-CheckIs (got s) bound (checked.Refused x) = ⊥
+abbrev pub CheckIs : Read (List ℕ) → ℕ → Result ℕ Refusal → Type 0
+CheckIs (got s) bound (Ok n) = (length s ≤ n) × (n ≡ bound)
+CheckIs (got s) bound (Err x) = ⊥
 CheckIs other bound r = ⊥
-CheckIs (refuse y) bound (checked.Most n) = ⊥
-CheckIs (refuse y) bound (checked.Refused x) = x ≡ y
+CheckIs (refuse y) bound (Ok n) = ⊥
+CheckIs (refuse y) bound (Err x) = x ≡ y
 
 -- The bytes that each letter writes at the most. Those of F g G J s Y may be fewer; the others write as many.
 unfoldable pub mosts : List (Char × ℕ)

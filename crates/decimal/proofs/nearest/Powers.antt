@@ -1,15 +1,15 @@
 -- Powers of two and five as the steps towards the nearest f64 meet them. Assumes nothing.
 use mathlib.Core.Path.{◌≡◌, refl, sym, ap, ◌∙◌, subst}
 use mathlib.Core.Bool.{Bool, true, false, not}
-use Prim.Native.Nat.{ℕ, zero, suc, ◌+◌, ◌-◌, ◌*◌, ◌/◌, ◌%◌, ◌^◌, ◌≤◌, ◌<◌, zero-le}
-use native.Mathlib.Nat.{le_trans, le_of_lt, mul-le-mul, mul-le-mul_right, mul-lt-mul_of_pos_right, lt_of_mul-lt-mul_right, le_antisymm, le_of_suc-le-suc, add-sub_of_le, sub-add_cancel, mul-mul-mul_comm, mul-add, mul_comm, mul_left_comm, add_assoc, add_comm, add_left_comm, lt_of_not-le, not-le_of_lt, lt_of_le_of_lt, lt_of_lt_of_le, pow-suc, pow-le-pow_right, mul_assoc, mul-one, one-mul, add-mul, suc-mul, mul_right_comm, div-add-mod', mod-lt, div-le_self, div-lt_iff_lt-mul, le-div_iff_mul-le, le_of_eq, le-add_right}
-use native.Mathlib.Numerals.{add-one}
+use Prim.Native.Nat.{ℕ, zero, suc, ◌+◌, ◌-◌, ◌*◌, ◌/◌, ◌%◌, ◌^◌, ◌≤◌, ◌<◌, min, zero-le}
+use native.Mathlib.Nat.{mul-le-mul_left, mod-eq_of_lt, le_trans, mul-le-mul_right, mul-lt-mul_of_pos_right, lt_of_mul-lt-mul_right, le_antisymm, le_of_suc-le-suc, sub-add_cancel, mul-mul-mul_comm, mul_comm, add_comm, lt_of_not-le, not-le_of_lt, lt_of_le_of_lt, lt_of_lt_of_le, pow-suc, pow-le-pow_right, mul_assoc, mul-one, one-mul, add-mul, suc-mul, mul_right_comm, div-add-mod', mod-lt, div-le_self, div-lt_iff_lt-mul, le-div_iff_mul-le, le_of_eq, le-add_right}
 use native.Mathlib.Omega.{arith}
-use lib.Dec.{T, ltb, ltb→lt, nltb→le, lit<, lit≤}
+use borrow.Author.Tests.{eqb-true, eqb-false}
+use lib.Dec.{T, eqb, ltb, ltb→lt, nltb→le, lit≤}
 use lib.Pow.{pow_mono, pow-add, pow_pos, shl_lt}
 use lib.Ieee.{binary64, nan_bits}
 use lib.Ieee.Bits.{nan_bits_above}
-use Rattle.decimal.specs.Steps.{Room, Narrowed}
+use Rattle.decimal.specs.Steps.{Room, Divided, Narrowed}
 
 -- a number of k bits is moved up from 1 by fewer than k places
 pub few_of : (s n k : ℕ) → 2 ^ s ≤ n → n < 2 ^ k → s < k
@@ -34,10 +34,7 @@ no_nan n h = subst (λ (b : Bool). T (not b)) (sym (nan_bits_above binary64 n)) 
     go true k = let l = k tt in absurd (omega arith)
     go false k = tt
 
--- ---- powers of ten
-pub five_step : (i : ℕ) → 5 ^ (i + 1) ≡ 5 ^ i * 5
-five_step i = ap (λ (x : ℕ). 5 ^ x) (add-one i) ∙ pow-suc 5 i
-
+-- ---- powers of five and ten
 pub five_le : (k : ℕ) → k ≤ 22 → 5 ^ k ≤ 5 ^ 22
 five_le k h = pow-le-pow_right (lit≤ tt) h
 
@@ -45,13 +42,6 @@ pub ten_pow : (k : ℕ) → 10 ^ k ≡ 5 ^ k * 2 ^ k
 ten_pow zero = refl
 ten_pow (suc k) =
     pow-suc 10 k ∙ ap (λ (x : ℕ). x * 10) (ten_pow k) ∙ mul-mul-mul_comm (5 ^ k) (2 ^ k) 5 2 ∙ ap (λ (x : ℕ). x * (2 ^ k * 2)) (sym (pow-suc 5 k)) ∙ ap (λ (x : ℕ). 5 ^ suc k * x) (sym (pow-suc 2 k))
-
--- ---- a product by halves
-pub halves : (a b c d B : ℕ) → (a * B + b) * (c * B + d) ≡ a * c * (B * B) + (a * d * B + b * c * B) + b * d
-halves a b c d B = simp (mul-add, add-mul, mul_assoc, mul_comm, mul_left_comm, add_assoc, add_comm, add_left_comm)
-
-pub half_lt : (x y : ℕ) → x < 2 ^ 32 → y < 2 ^ 32 → x * y ≤ 4294967295 * 4294967295
-half_lt x y h k = mul-le-mul (le_of_suc-le-suc h) (le_of_suc-le-suc k)
 
 -- ---- a step of the long division, by j bits
 
@@ -87,30 +77,73 @@ division_goes n by m r t j l h i =
       fills m q j l h u,
     )
 
--- ---- two words to one
+-- the turn of the loop that takes j bits, 1 to 12, for which m has room
+pub record Turn (n by m r t j : ℕ) : Type 0 where
+  pub some : 0 < j
+  pub few : j < 64
+  pub short : t + j < 64
+  pub goes : Dividing n by (m * 2 ^ j % 2 ^ 64 + r * 2 ^ j % 2 ^ 64 / by) (r * 2 ^ j % 2 ^ 64 % by) (t + j)
 
-pub high_lt : (n f high low : ℕ) → n < 2 ^ 64 → f ≤ 2 ^ 52 → high * 2 ^ 64 + low ≡ n * f → high < 2 ^ 63
-high_lt n f high low h k e =
-    lt_of_mul-lt-mul_right (2 ^ 64) (lt_of_le_of_lt (le_trans (le-add_right (high * 2 ^ 64) low) (le_trans (le_of_eq e) (mul-le-mul (le_of_lt h) k))) (lit< tt))
-
-pub narrowed : (high low z : ℕ) → Room high z → low < 2 ^ 64 → Narrowed (high * 2 ^ 64 + low) (high * 2 ^ z + low / 2 ^ (64 - z)) (64 - z) (ltb 0 (low % 2 ^ (64 - z)))
-narrowed high low z h w =
-    let l : z ≤ 64 = le_of_lt h.few in
-    let t = 64 - z in
-    let u = 2 ^ t in
-    let p : 0 < u = pow_pos t in
-    let e : 2 ^ z * u ≡ 2 ^ 64 = sym (pow-add 2 z t) ∙ ap (λ (x : ℕ). 2 ^ x) (add-sub_of_le l) in
-    let a : high * 2 ^ z * u ≡ high * 2 ^ 64 = mul_assoc high (2 ^ z) u ∙ ap (λ (x : ℕ). high * x) e in
-    let b : (high * 2 ^ z + low / u) * u ≡ high * 2 ^ z * u + low / u * u = add-mul (high * 2 ^ z) (low / u) u in
-    let d : low / u * u + low % u ≡ low = div-add-mod' low u in
-    let q : low / u < 2 ^ z = (div-lt_iff_lt-mul p).1 (lt_of_lt_of_le w (le_of_eq (sym e))) in
+pub turn : (n by m r t z j : ℕ) → by ≤ 2 ^ 52 → m < 2 ^ 63 → Room m z → j ≡ min z 12 → Dividing n by m r t → Turn n by m r t j
+turn n by m r t z j b l h e d =
+    let p : 0 < j = omega (arith, h.some l) in
+    let k : j ≤ 12 = omega arith in
+    let u : m * 2 ^ j < 2 ^ 64 = lt_of_le_of_lt (mul-le-mul_left m (pow_mono (omega arith))) h.wide in
+    let v : r * 2 ^ j < 2 ^ 64 = lt_of_lt_of_le (mul-lt-mul_of_pos_right (lt_of_lt_of_le d.1 b) (pow_pos j)) (mul-le-mul_left (2 ^ 52) (pow_mono k)) in
+    let g = division_goes n by m r t j (omega arith) u d in
     record {
-      rest = low % u;
-      is = omega arith;
-      small = mod-lt low p;
-      full = le_trans h.full (le-add_right (high * 2 ^ z) (low / u));
-      wide = fills high (low / u) z l h.wide q;
+      some = p;
       few = omega arith;
-      left = λ s. ltb→lt 0 (low % u) s;
-      none = λ s. le_antisymm (nltb→le 0 (low % u) s) zero-le;
+      short = few_of (t + j) _ 64 g.2 g.3;
+      goes = rw (mod-eq_of_lt u, mod-eq_of_lt v) g;
     }
+
+pub division_ends : (n by m r t : ℕ) → Dividing n by m r t → 2 ^ 63 ≤ m → Divided n by m t (ltb 0 r)
+division_ends n by m r t d h = record {
+  rest = r;
+  is = d.0;
+  small = d.1;
+  full = h;
+  wide = d.3;
+  few = le_of_suc-le-suc (few_of t m 64 d.2 d.3);
+  left = λ s. ltb→lt 0 r s;
+  none = λ s. le_antisymm (nltb→le 0 r s) zero-le;
+}
+
+-- ---- a number to its 64 highest bits
+
+-- the highest bit of n is bit j
+pub narrowed : (n j : ℕ) → 2 ^ 63 ≤ n → n < 2 ^ 128 → 2 ^ j ≤ n → n < 2 * 2 ^ j → let t = j - 63 in (63 ≤ j) × Narrowed n (n / 2 ^ t) t (not (eqb (n / 2 ^ t * 2 ^ t % 2 ^ 128) n))
+narrowed n j h w lo hi =
+    let t = j - 63 in
+    let u = 2 ^ t in
+    let q = n / u * u in
+    let p : 0 < u = pow_pos t in
+    let hi' : n < 2 ^ suc j = lt_of_lt_of_le hi (le_of_eq (mul_comm 2 (2 ^ j) ∙ sym (pow-suc 2 j))) in
+    let k : 63 ≤ j = le_of_suc-le-suc (few_of 63 n (suc j) h hi') in
+    let e : 63 + t ≡ j = omega arith in
+    let f : 64 + t ≡ suc j = omega arith in
+    let a : 2 ^ 63 * u ≡ 2 ^ j = sym (pow-add 2 63 t) ∙ ap (λ (x : ℕ). 2 ^ x) e in
+    let b : 2 ^ 64 * u ≡ 2 ^ suc j = sym (pow-add 2 64 t) ∙ ap (λ (x : ℕ). 2 ^ x) f in
+    let d : q + n % u ≡ n = div-add-mod' n u in
+    let l : q < 2 ^ 128 = omega arith in
+    let s = left_over q (n % u) n d in (
+      k,
+      rw (mod-eq_of_lt l) (record {
+        rest = n % u;
+        is = sym d;
+        small = mod-lt n p;
+        full = (le-div_iff_mul-le p).1 (le_trans (le_of_eq a) lo);
+        wide = (div-lt_iff_lt-mul p).1 (lt_of_lt_of_le hi' (le_of_eq (sym b)));
+        few = omega (arith, few_of j n 128 lo w);
+        left = s.0;
+        none = s.1;
+      }),
+    )
+  where
+    left_over : (q r n : ℕ) → q + r ≡ n → (T (not (eqb q n)) → 0 < r) × (T (not (not (eqb q n))) → r ≡ 0)
+    left_over q r n e = go (eqb q n) refl
+      where
+        go : (b : Bool) → eqb q n ≡ b → (T (not b) → 0 < r) × (T (not (not b)) → r ≡ 0)
+        go true h = (λ f. absurd f, λ _. omega (arith, eqb-true q n h))
+        go false h = (λ _. omega (arith, eqb-false q n h), λ f. absurd f)

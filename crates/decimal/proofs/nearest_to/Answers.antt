@@ -1,43 +1,23 @@
--- `decimal::nearest_to` meets its contract. Assumes nothing.
-use mathlib.Core.Path.{◌≡◌, refl, sym, ap, ◌∙◌}
-use Rattle.std.specs.Prelude.{if◌then◌else◌}
-use mathlib.Core.Bool.{Bool, false}
-use Prim.Native.Nat.{◌-◌, ◌*◌, ◌^◌}
+-- `decimal::nearest_to` meets its contract.
+use Rattle.std.proofs.Common.{sym, arith}
 use native.Mathlib.Nat.{le_of_lt}
-use native.Mathlib.Omega.{arith}
-use lib.Ieee.{Float, binary64, of_bits, round, neg}
-use Rattle.rules.specs.Basics.{got}
-use Rattle.decimal.proofs.Limits.{too_high, too_low, too_long, none, raised, divided, refused, signed}
+use Rattle.decimal.proofs.Limits.{zero, signed, none, too_long, too_far, raised, divided}
 use Rattle.decimal.proofs.nearest_to.Goals as goal
-
-abbrev with_sign : Bool → Float → Float
-with_sign minus x = if minus then neg x else x
-
-zero : of_bits binary64 0 ≡ round binary64 false 0 1
-unfolding of_bits round
-zero = refl
+use Rattle.decimal.proofs.nearest_to.Goals.{then-d-ge-OVER-via-then-d-ge-OVER, then-d-ge-OVER-via-else-d-ge-OVER+then-abs_diff-gt-POWER, then-down-up, else-down-up}
 
 pub returns-then-d-eq0 : goal.returns-then-d-eq0
-returns-then-d-eq0 c = let a = c.args in
-    ap got (c.with_sign.ensures ∙ ap (with_sign a.minus) zero ∙ signed a.minus 0 1) ∙ sym (none a.minus a.d a.up a.down c.if-d-eq0.true)
+returns-then-d-eq0 c = rw (c.with_sign.ensures, zero, signed, none _ _ _ _ c.if-d-eq0.true)
 
 pub returns-then-d-ge-OVER : goal.returns-then-d-ge-OVER
-returns-then-d-ge-OVER c = let a = c.args in sym (too_long a.minus a.d a.up a.down c.if-d-ge-OVER.true)
-
-pub returns-then-up-down-gt-POWER : goal.returns-then-up-down-gt-POWER
-returns-then-up-down-gt-POWER c = let a = c.args in
-    sym (too_high a.minus a.d a.up a.down (omega arith) ∙ refused a.minus a.d a.up a.down c.if-d-eq0.false)
-
-pub returns-then-down-up : goal.returns-then-down-up
-returns-then-down-up c = let a = c.args in
-    ap got (c.with_sign-then-down-up.ensures ∙ ap (with_sign a.minus) c.above.ensures ∙ signed a.minus (a.d * 10 ^ (a.up - a.down)) 1)
-    ∙ sym (raised a.minus a.d a.up a.down c.if-d-eq0.false c.if-d-ge-OVER.false c.if-down-up.true c.if-up-down-gt-POWER.false)
-
-pub returns-then-down-up-gt-POWER : goal.returns-then-down-up-gt-POWER
-returns-then-down-up-gt-POWER c = let a = c.args in
-    sym (too_low a.minus a.d a.up a.down (omega arith) (omega arith) ∙ refused a.minus a.d a.up a.down c.if-d-eq0.false)
+returns-then-d-ge-OVER c =
+    elim c.then-d-ge-OVER.branch [
+      | then-d-ge-OVER-via-then-d-ge-OVER w ↦ sym (too_long _ _ _ _ w.if-d-ge-OVER.true)
+      | then-d-ge-OVER-via-else-d-ge-OVER+then-abs_diff-gt-POWER w ↦ sym (too_far _ _ _ _ c.if-d-eq0.false (rw (← w.abs_diff.ensures) w.if-abs_diff-gt-POWER.true))
+    ]
 
 pub returns : goal.returns
-returns c = let a = c.args in
-    ap got (c.with_sign-2.ensures ∙ ap (with_sign a.minus) c.below.ensures ∙ signed a.minus a.d (10 ^ (a.down - a.up)))
-    ∙ sym (divided a.minus a.d a.up a.down c.if-d-eq0.false c.if-d-ge-OVER.false (le_of_lt c.if-down-up.false) c.if-down-up-gt-POWER.false)
+returns c =
+    elim c.if-down-up.branch [
+      | then-down-up w ↦ rw (c.with_sign-2.ensures, w.x-is, w.above-x.ensures, signed, raised _ _ _ _ c.if-d-eq0.false c.if-d-ge-OVER.false w.if-down-up.true (omega (arith, c.abs_diff.ensures)))
+      | else-down-up w ↦ rw (c.with_sign-2.ensures, w.x-is, w.below-x.ensures, signed, divided _ _ _ _ c.if-d-eq0.false c.if-d-ge-OVER.false (le_of_lt w.if-down-up.false) (omega (arith, c.abs_diff.ensures)))
+    ]

@@ -1,47 +1,37 @@
--- `decimal::run` meets its contract: the digits passed are `Passed`. Assumes nothing.
-use mathlib.Core.Path.{◌≡◌, sym, ap, ◌∙◌}
-use mathlib.Core.Bool.{true}
-use Prim.Native.Nat.{ℕ, ◌+◌, ◌-◌, ◌*◌, ◌≤◌}
-use native.Mathlib.Omega.{arith}
-use lib.ListN.{get_or}
-use Rattle.rules.specs.Basics.{is_digit}
-use Rattle.decimal.specs.Held.{held}
-use Rattle.real.proofs.Run.{run_end}
-use Rattle.text.proofs.Bytes.{digit_bounds}
-use Rattle.decimal.proofs.Readers.{passed_none, passed_more, passed_all, run_other}
+-- `decimal::run` meets its contract.
+use Rattle.std.proofs.Common.{◌≡◌, ℕ, ◌+◌, ◌-◌, ◌*◌, ◌<◌, List, [], ◌∷◌, length, sym, ap, ◌∙◌, arith}
+use Rattle.std.specs.Borrow.{Bor}
+use Rattle.rules.specs.Decimal.{run, value}
+use Rattle.decimal.specs.Held.{held, Taken}
+use Rattle.decimal.proofs.Limits.{held_value}
+use Rattle.decimal.proofs.Readers.{run_length}
+use Rattle.decimal.proofs.run.Invariants.{Going}
 use Rattle.decimal.proofs.run.Goals as goal
-use Rattle.decimal.proofs.run.Tie as tie
-use Rattle.decimal.proofs.run.Lts as lts
-use Rattle.decimal.proofs.run.Reads as reads
 
-pub loop-i-init : goal.loop-i-init
-loop-i-init c = let a = c.args in passed_none a.s.now a.at a.«from» c.requires.0 c.requires.1
+goes_on : (s : List ℕ) (before v d : ℕ) (rest after : List ℕ) → run rest ≡ (d ∷ (run after).0, (run after).1) → length after < length rest → Going s before v rest → Going s before (held (v * 10 + d)) after
+unfolding value
+goes_on s before v d rest after r l g = record {
+  number = held_value (v * 10 + d) (run after).0 ∙ sym (ap (λ x. held (value v x.0)) r) ∙ g.number;
+  follows = sym (ap (λ x. x.1) r) ∙ g.follows;
+  fits = omega arith;
+  shorter = omega (arith, g.shorter);
+}
 
-pub returns-then-not-is_digit : goal.returns-then-not-is_digit
-returns-then-not-is_digit c = let a = c.args in
-    let l = c.loop-i in
-    passed_all a.s.now a.at a.«from» l.i l.value (run_other a.s.now l.i c.loop-i-test.true (sym c.is_digit.ensures ∙ c.if-not-is_digit.true)) l.invariant
+ends : (s : List ℕ) (before v : ℕ) (rest : Bor (List ℕ)) → run rest.now ≡ ([], rest.now) → Going s before v rest.now → Taken (run s) before (record { value = v; count = length s - length rest.now; rest = rest })
+unfolding value
+ends s before v rest r g =
+    let f : rest.now ≡ (run s).1 = sym (ap (λ x. x.1) r) ∙ g.follows in
+    let n : held v ≡ held (value before (run s).0) = sym (ap (λ x. held (value v x.0)) r) ∙ g.number in
+    record {
+      number = omega (arith, g.fits);
+      many = omega (arith, run_length s, ap length f);
+      follows = f;
+    }
 
--- the byte is a digit
-digit : (c : lts.Else1 tie.the-claims reads.Pre reads.Post goal.the-invariant-loop-i goal.the-decreases-loop-i) → is_digit (get_or c.args.s.now c.loop-i.i 0) ≡ true
-digit c = sym c.is_digit.ensures ∙ c.if-not-is_digit.false
-
-bounds : (c : lts.After-wide tie.the-claims reads.Pre reads.Post goal.the-invariant-loop-i goal.the-decreases-loop-i) → (48 ≤ c.wide.result) × (c.wide.result ≤ 57)
-bounds c = rw c.wide.ensures (digit_bounds _ (digit c.before))
-
-pub overflow_sub-wide : goal.overflow_sub-wide
-overflow_sub-wide c = (bounds c.before).0
-
-pub more-value-requires : goal.more-value-requires
-more-value-requires c = (c.loop-i.invariant.small, omega (arith, bounds c.before))
-
-pub loop-i-preserved : goal.loop-i-preserved
-loop-i-preserved c = let a = c.args in
-    let l = c.loop-i in
-    let e : c.more-value.result ≡ held (l.value * 10 + (get_or a.s.now l.i 0 - 48)) = c.more-value.ensures ∙ ap (λ (x : ℕ). held (l.value * 10 + (x - 48))) c.wide.ensures in
-    rw e (passed_more a.s.now a.at a.«from» l.i l.value c.loop-i-test.true (digit c.before.before.before) l.invariant)
+pub loop-d-preserved : goal.loop-d-preserved
+loop-d-preserved c =
+    let e : c.saturating_add-value.result ≡ held (c.loop-d.value * 10 + c.in-Some.d) = omega (arith, c.saturating_add-value.ensures, c.saturating_mul.ensures, c.from.ensures) in
+    rw e (goes_on _ _ _ _ _ _ c.in-Some.ensures.digit c.in-Some.ensures.shorter c.loop-d.invariant)
 
 pub returns : goal.returns
-returns c = let a = c.args in
-    let l = c.loop-i in
-    passed_all a.s.now a.at a.«from» l.i l.value (run_end a.s.now l.i c.loop-i-test.false) l.invariant
+returns c = ends _ _ _ _ c.in_default.ensures.other c.loop-d.invariant

@@ -1,10 +1,13 @@
--- What is done so far is written, and each turn leaves less to write.
-use Rattle.std.proofs.Common.{◌-◌, ◌≤◌, length, take}
-use Rattle.std.specs.Io.KnownBytes.{Appends}
+-- Whoever writes the rest has written all. Each turn leaves less.
+use Rattle.std.proofs.Common.{length}
+use Rattle.std.specs.Prelude.{Option, Result, ℕ, List, ⊤}
+use Rattle.streams.specs.declared.Unwritten.{Unwritten}
+use Rattle.streams.specs.Known.{Writes}
 use Rattle.streams.proofs.write_all.Given as goal
 
-abbrev pub invariant-loop-done : goal.invariant-loop-done
-invariant-loop-done g l = (l.done ≤ length l.bytes) × Appends (g.W.Write.contents l.fn.out) (g.W.Write.contents l.out) (take l.done l.bytes)
+abbrev pub invariant-loop-rest : goal.invariant-loop-rest
+invariant-loop-rest g l = (after : Option (List ℕ)) (r : Result ⊤ Unwritten)
+    → Writes (g.W.Write.contents l.out) after l.rest r → Writes (g.W.Write.contents l.fn.out) after l.bytes r
 
-abbrev pub decreases-loop-done : goal.decreases-loop-done
-decreases-loop-done g l = length l.bytes - l.done
+abbrev pub decreases-loop-rest : goal.decreases-loop-rest
+decreases-loop-rest g l = length l.rest

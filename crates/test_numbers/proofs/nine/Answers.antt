@@ -1,5 +1,4 @@
--- `test_numbers::nine` meets its contract. Assumes nothing.
-use mathlib.Core.Path.{◌≡◌, refl, sym}
+use Rattle.std.proofs.Common.{◌≡◌, refl, sym}
 use lib.Ieee.{binary64, of_bits, of_int, round}
 use Rattle.rules.specs.Floats.{number}
 use Rattle.test_numbers.proofs.nine.Goals as goal
@@ -12,5 +11,5 @@ two23 : of_bits binary64 4710765210229538816 ≡ number 8388608
 unfolding of_bits of_int round
 two23 = refl
 
-pub billionths-requires : goal.billionths-requires
-billionths-requires c = rw (sym million, sym two23, c.if-x.true, c.if-x-2.true)
+pub billionths-n-requires : goal.billionths-n-requires
+billionths-n-requires c = rw (sym million, sym two23, c.if-x.true, c.if-x-2.true)

@@ -1,5 +1,4 @@
--- `test_numbers::three` meets its contract. Assumes nothing.
-use mathlib.Core.Path.{◌≡◌, refl, sym, ◌∙◌}
+use Rattle.std.proofs.Common.{◌≡◌, refl, sym}
 use lib.Ieee.{binary64, of_bits, of_int, round}
 use Rattle.rules.specs.Floats.{number}
 use Rattle.test_numbers.proofs.three.Goals as goal
@@ -8,5 +7,5 @@ two53 : of_bits binary64 4845873199050653696 ≡ number 9007199254740992
 unfolding of_bits of_int round
 two53 = refl
 
-pub thousandths-requires : goal.thousandths-requires
-thousandths-requires c = rw (sym two53) (sym c.below.ensures ∙ c.if-below.true)
+pub thousandths-n-requires : goal.thousandths-n-requires
+thousandths-n-requires c = rw (sym two53) (cc (c.below.ensures, c.if-not-below.false))

@@ -18,8 +18,8 @@ put_next-point-requires c = record { few_digits = omega arith; room = room_first
 pub put_byte-thousandths-requires : goal.put_byte-thousandths-requires
 put_byte-thousandths-requires c = room_first _ _ (room_then c.put_next-point.ensures (room_then c.put_next-before_second.ensures (room_then c.put_next-before_minute.ensures (room_then c.put_next-before_hour.ensures c.requires.room))))
 
-pub put_three-requires : goal.put_three-requires
-put_three-requires c = record { few_digits = omega arith; room = room_then c.put_byte-thousandths.ensures (room_then c.put_next-point.ensures (room_then c.put_next-before_second.ensures (room_then c.put_next-before_minute.ensures (room_then c.put_next-before_hour.ensures c.requires.room)))) }
+pub put_digits-requires : goal.put_digits-requires
+put_digits-requires c = record { some_digits = omega arith; few_digits = omega arith; room = room_then c.put_byte-thousandths.ensures (room_then c.put_next-point.ensures (room_then c.put_next-before_second.ensures (room_then c.put_next-before_minute.ensures (room_then c.put_next-before_hour.ensures c.requires.room)))) }
 
 pub returns : goal.returns
-returns c = laid_then c.put_next-before_hour.ensures (laid_then c.put_next-before_minute.ensures (laid_then c.put_next-before_second.ensures (laid_then c.put_next-point.ensures (laid_then c.put_byte-thousandths.ensures c.put_three.ensures))))
+returns c = laid_then c.put_next-before_hour.ensures (laid_then c.put_next-before_minute.ensures (laid_then c.put_next-before_second.ensures (laid_then c.put_next-point.ensures (laid_then c.put_byte-thousandths.ensures c.put_digits.ensures))))

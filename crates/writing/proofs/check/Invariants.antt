@@ -1,12 +1,11 @@
 -- `writing::check` meets its contract. Assumes nothing.
-use Prim.Native.Nat.{◌-◌}
 use lib.ListN.{length}
 use Rattle.moment.specs.Held.{held}
 use Rattle.writing.proofs.Loops.{Bounded}
 use Rattle.writing.proofs.check.Given as goal
 
-abbrev pub invariant-loop-i : goal.invariant-loop-i
-invariant-loop-i l = Bounded (held l.p) l.format l.i l.most
+abbrev pub invariant-loop-b : goal.invariant-loop-b
+invariant-loop-b l = Bounded (held l.p) l.format l.left l.most
 
-abbrev pub decreases-loop-i : goal.decreases-loop-i
-decreases-loop-i l = length l.format - l.i
+abbrev pub decreases-loop-b : goal.decreases-loop-b
+decreases-loop-b l = length l.left

@@ -1,12 +1,11 @@
 -- `writing::format_length` meets its contract. Assumes nothing.
-use Prim.Native.Nat.{◌-◌}
 use lib.ListN.{length}
 use Rattle.moment.specs.Held.{held}
 use Rattle.writing.proofs.Loops.{Counted}
 use Rattle.writing.proofs.format_length.Given as goal
 
-abbrev pub invariant-loop-i : goal.invariant-loop-i
-invariant-loop-i l = Counted (held l.p) l.format l.i l.n
+abbrev pub invariant-loop-b : goal.invariant-loop-b
+invariant-loop-b l = Counted (held l.p) l.format l.left l.n
 
-abbrev pub decreases-loop-i : goal.decreases-loop-i
-decreases-loop-i l = length l.format - l.i
+abbrev pub decreases-loop-b : goal.decreases-loop-b
+decreases-loop-b l = length l.left

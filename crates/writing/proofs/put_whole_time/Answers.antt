@@ -2,14 +2,14 @@
 use Rattle.digits.proofs.Buffer.{room_first, room_then, laid_then}
 use Rattle.writing.proofs.put_whole_time.Goals as goal
 
-pub put_clock-colon-requires : goal.put_clock-colon-requires
-put_clock-colon-requires c = record { time_in = (c.requires.time_in.0, c.requires.time_in.1); room = room_first _ _ (room_first _ _ c.requires.room) }
+pub put_clock-colon-requires-clause-room : goal.put_clock-colon-requires-clause-room
+put_clock-colon-requires-clause-room c = room_first _ _ (room_first _ _ c.requires.room)
 
 pub put_byte-before_second-requires : goal.put_byte-before_second-requires
 put_byte-before_second-requires c = room_then c.put_clock-colon.ensures (room_first _ _ c.requires.room)
 
-pub put_second-requires : goal.put_second-requires
-put_second-requires c = record { second_in = c.requires.time_in.2; room = room_then (laid_then c.put_clock-colon.ensures c.put_byte-before_second.ensures) c.requires.room }
+pub put_second-requires-clause-room : goal.put_second-requires-clause-room
+put_second-requires-clause-room c = room_then (laid_then c.put_clock-colon.ensures c.put_byte-before_second.ensures) c.requires.room
 
 pub returns : goal.returns
 returns c = laid_then (laid_then c.put_clock-colon.ensures c.put_byte-before_second.ensures) c.put_second.ensures

@@ -4,8 +4,8 @@ use lib.ListN.{length}
 use Rattle.writing.proofs.Texts.{unix_decimals_lem, unix_whole}
 use Rattle.writing.proofs.unix_length.Goals as goal
 
-pub returns-then-subsec : goal.returns-then-subsec
-returns-then-subsec c = c.unix_decimals_length.ensures ∙ sym (ap length (unix_decimals_lem _ _ c.if-subsec.true))
+pub returns-then-p : goal.returns-then-p
+returns-then-p c = c.unix_decimals_length.ensures ∙ sym (ap length (unix_decimals_lem _ c.if-p.true))
 
-pub returns : goal.returns
-returns c = c.integer_length.ensures ∙ sym (ap length (unix_whole _ _ _ c.if-subsec.false c.unix_seconds.type_inv c.unix_seconds.ensures))
+pub returns-else-p : goal.returns-else-p
+returns-else-p c = c.integer_length.ensures ∙ sym (ap length (unix_whole _ _ c.if-p.false c.unix_seconds.type_inv c.unix_seconds.ensures))

@@ -1,25 +1,16 @@
--- `decimal::nearest::multiplied` meets its contract. Assumes nothing.
-use mathlib.Core.Path.{◌≡◌, sym, ap, ◌∙◌}
-use Prim.Native.Nat.{ℕ, ◌+◌, ◌*◌, ◌^◌}
-use native.Mathlib.Nat.{one-le-pow, le_trans, le_of_eq, le-mul_of_pos_right}
+-- `decimal::nearest::multiplied` meets its contract.
+use Rattle.std.proofs.Common.{◌∙◌, le_trans, arith}
+use native.Mathlib.Nat.{one-le-pow, le-mul_of_pos_right}
 use lib.Dec.{lit≤}
-use Rattle.decimal.proofs.nearest.Powers.{five_le, high_lt}
+use Rattle.decimal.proofs.nearest.Powers.{five_le}
 use Rattle.decimal.proofs.nearest.Joined.{above_is}
 use Rattle.decimal.proofs.nearest.multiplied.Goals as goal
 
+pub pow-requires : goal.pow-requires
+pow-requires c = omega (arith, five_le c.args.k c.requires.1)
+
 pub narrow-q-requires : goal.narrow-q-requires
-narrow-q-requires c = let k = c.args.k in
-    let n = c.lead-l.result.n in
-    let p : c.product-w.result.hi * 2 ^ 64 + c.product-w.result.lo ≡ n * 5 ^ k = c.product-w.ensures ∙ ap (λ (x : ℕ). n * x) c.fives-f.ensures in (
-      le_trans c.lead-l.ensures.full (le_trans (le-mul_of_pos_right n (one-le-pow k 5 (lit≤ tt))) (le_of_eq (sym p))),
-      high_lt n (5 ^ k) c.product-w.result.hi c.product-w.result.lo c.lead-l.ensures.wide (le_trans (five_le k c.requires.1) (lit≤ tt)) p,
-    )
+narrow-q-requires c = rw (c.from.ensures, c.from-2.ensures, c.pow.ensures) (le_trans c.lead-n.ensures.full (le-mul_of_pos_right c.lead-n.result.0 (one-le-pow c.args.k 5 (lit≤ tt))))
 
 pub returns : goal.returns
-returns c = let a = c.args in
-    let v = c.narrow-q.result in
-    c.pack.ensures
-    ∙ above_is a.d c.lead-l.result.n c.lead-l.result.s a.k (c.product-w.result.hi * 2 ^ 64 + c.product-w.result.lo) v.m v.t v.sticky c.lead-l.ensures
-    (c.product-w.ensures ∙ ap (λ (x : ℕ). c.lead-l.result.n * x) c.fives-f.ensures)
-    c.narrow-q.ensures
-    c.requires.1
+returns c = c.pack.ensures ∙ above_is _ _ _ c.args.k _ _ _ _ c.lead-n.ensures (rw (c.from.ensures, c.from-2.ensures, c.pow.ensures)) c.narrow-q.ensures c.requires.1

@@ -1,108 +1,42 @@
--- `decimal::nearest::ten_to` meets its contract: each literal is that power of ten, by computing it. Assumes nothing.
-use mathlib.Core.Path.{◌≡◌, refl, sym}
-use Prim.Native.Nat.{ℕ, zero, suc, ◌≤◌, zero-le}
-use native.Mathlib.Nat.{le_antisymm}
-use lib.Arith.{lt_of_le-ne}
-use lib.Ieee.{of_bits}
+-- `decimal::nearest::ten_to` meets its contract: each entry of the table is ten times the one before, by computing it.
+use Rattle.std.proofs.Common.{◌≡◌, ℕ, zero, suc, ◌*◌, ◌^◌, ◌<◌, Bool, true, false, ◌&&◌, List, [], ◌∷◌, length, get_or, T, eqb, refl, ap, ◌∙◌, sym, subst, arith, one-mul, pow-suc, mul_assoc, mul_comm}
+use lib.Dec.{eqb→eq}
+use lib.Ieee.{Float, nan, inf, fin, up, down, of_bits}
+use lib.Ieee.Exact.{HasValue}
+use Rattle.decimal.specs.declared.nearest.TheConstants.{TENS}
 use Rattle.decimal.proofs.nearest.ten_to.Goals as goal
 
--- k is none of the first n numbers
-abbrev Rest : ℕ → ℕ → Type 0
-Rest k zero = Unit {0}
-Rest k (suc n) = Rest k n × (k ≡ n → ⊥)
+-- whether x is the number p
+abbrev is : Float → ℕ → Bool
+is nan p = false
+is (inf s) p = false
+is (fin true m e) p = false
+is (fin false m e) p = eqb (m * up e * 1) (p * down e)
 
-past : (k n : ℕ) → Rest k n → n ≤ k
-past k zero r = zero-le
-past k (suc n) r = lt_of_le-ne (past k n r.0) (λ e. r.1 (sym e))
+value : (x : Float) (p : ℕ) → T (is x p) → HasValue x false p 1
+value nan p t = absurd t
+value (inf s) p t = absurd t
+value (fin true m e) p t = absurd t
+value (fin false m e) p t = (refl, eqb→eq _ _ t)
 
-pub returns-in-0 : goal.returns-in-0
+abbrev tens : List Float → ℕ → Bool
+tens [] p = true
+tens (x ∷ xs) p = is x p && tens xs (p * 10)
+
+both : (a b : Bool) → T (a && b) → T a × T b
+both true b t = (tt, t)
+both false b t = absurd t
+
+at : (xs : List Float) (p k : ℕ) (d : Float) → k < length xs → T (tens xs p) → HasValue (get_or xs k d) false (p * 10 ^ k) 1
+at [] p k d h t = absurd (omega arith)
+at (x ∷ xs) p zero d h t = let e : p ≡ p * 10 ^ 0 = omega arith in subst (λ (v : ℕ). HasValue x false v 1) e (value x p (both (is x p) (tens xs (p * 10)) t).0)
+at (x ∷ xs) p (suc k) d h t =
+    let e : p * 10 * 10 ^ k ≡ p * 10 ^ suc k = mul_assoc p 10 (10 ^ k) ∙ ap (λ (v : ℕ). p * v) (mul_comm 10 (10 ^ k) ∙ sym (pow-suc 10 k)) in
+    subst (λ (v : ℕ). HasValue (get_or xs k d) false v 1) e (at xs (p * 10) k d (omega arith) (both (is x p) (tens xs (p * 10)) t).1)
+
+ten : (xs : List Float) (k : ℕ) (d : Float) → k < length xs → T (tens xs 1) → HasValue (get_or xs k d) false (10 ^ k) 1
+ten xs k d h t = rw one-mul at (at xs 1 k d h t)
+
+pub returns : goal.returns
 unfolding of_bits
-returns-in-0 c = rw c.in-0.is (refl, refl)
-
-pub returns-in-1 : goal.returns-in-1
-unfolding of_bits
-returns-in-1 c = rw c.in-1.is (refl, refl)
-
-pub returns-in-2 : goal.returns-in-2
-unfolding of_bits
-returns-in-2 c = rw c.in-2.is (refl, refl)
-
-pub returns-in-3 : goal.returns-in-3
-unfolding of_bits
-returns-in-3 c = rw c.in-3.is (refl, refl)
-
-pub returns-in-4 : goal.returns-in-4
-unfolding of_bits
-returns-in-4 c = rw c.in-4.is (refl, refl)
-
-pub returns-in-5 : goal.returns-in-5
-unfolding of_bits
-returns-in-5 c = rw c.in-5.is (refl, refl)
-
-pub returns-in-6 : goal.returns-in-6
-unfolding of_bits
-returns-in-6 c = rw c.in-6.is (refl, refl)
-
-pub returns-in-7 : goal.returns-in-7
-unfolding of_bits
-returns-in-7 c = rw c.in-7.is (refl, refl)
-
-pub returns-in-8 : goal.returns-in-8
-unfolding of_bits
-returns-in-8 c = rw c.in-8.is (refl, refl)
-
-pub returns-in-9 : goal.returns-in-9
-unfolding of_bits
-returns-in-9 c = rw c.in-9.is (refl, refl)
-
-pub returns-in-10 : goal.returns-in-10
-unfolding of_bits
-returns-in-10 c = rw c.in-10.is (refl, refl)
-
-pub returns-in-11 : goal.returns-in-11
-unfolding of_bits
-returns-in-11 c = rw c.in-11.is (refl, refl)
-
-pub returns-in-12 : goal.returns-in-12
-unfolding of_bits
-returns-in-12 c = rw c.in-12.is (refl, refl)
-
-pub returns-in-13 : goal.returns-in-13
-unfolding of_bits
-returns-in-13 c = rw c.in-13.is (refl, refl)
-
-pub returns-in-14 : goal.returns-in-14
-unfolding of_bits
-returns-in-14 c = rw c.in-14.is (refl, refl)
-
-pub returns-in-15 : goal.returns-in-15
-unfolding of_bits
-returns-in-15 c = rw c.in-15.is (refl, refl)
-
-pub returns-in-16 : goal.returns-in-16
-unfolding of_bits
-returns-in-16 c = rw c.in-16.is (refl, refl)
-
-pub returns-in-17 : goal.returns-in-17
-unfolding of_bits
-returns-in-17 c = rw c.in-17.is (refl, refl)
-
-pub returns-in-18 : goal.returns-in-18
-unfolding of_bits
-returns-in-18 c = rw c.in-18.is (refl, refl)
-
-pub returns-in-19 : goal.returns-in-19
-unfolding of_bits
-returns-in-19 c = rw c.in-19.is (refl, refl)
-
-pub returns-in-20 : goal.returns-in-20
-unfolding of_bits
-returns-in-20 c = rw c.in-20.is (refl, refl)
-
-pub returns-in-21 : goal.returns-in-21
-unfolding of_bits
-returns-in-21 c = rw c.in-21.is (refl, refl)
-
-pub returns-in_default : goal.returns-in_default
-unfolding of_bits
-returns-in_default c = let k = c.args.k in rw (le_antisymm c.requires (past k 22 c.in_default.in_default-own.rest)) (refl, refl)
+returns c = ten TENS c.args.k nan (omega arith) tt

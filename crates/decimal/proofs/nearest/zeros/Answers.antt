@@ -1,11 +1,7 @@
--- `decimal::nearest::zeros` meets its contract. Assumes nothing.
-use native.Mathlib.Omega.{arith}
-use lib.Count.{count_leading_zeros, leading_le, leading_top}
+-- `decimal::nearest::zeros` meets its contract.
+use lib.Count.{count_leading_zeros, leading_top}
 use Rattle.decimal.proofs.nearest.Powers.{room}
 use Rattle.decimal.proofs.nearest.zeros.Goals as goal
-
-pub overflow_cast-result : goal.overflow_cast-result
-overflow_cast-result c = omega (arith, leading_le 64 c.args.n)
 
 pub returns : goal.returns
 returns c = let n = c.args.n in

@@ -11,4 +11,4 @@ pub returns-then-self-le28 : goal.returns-then-self-le28
 returns-then-self-le28 c = filled_as (renew_not (held c.args.self) c.if-self-le28.true) c.fill.ensures
 
 pub returns : goal.returns
-returns c = filled_as (renew (held c.args.self) c.if-self-le28.false) (then_fill fill (filled _ (undated_kept (held c.args.self)) c.requires refl) c.filled.ensures)
+returns c = filled_as (renew (held c.args.self) c.if-self-le28.false) (then_fill fill (filled _ (undated_kept (held c.args.self)) refl) c.filled.ensures)

@@ -7,4 +7,4 @@ use Rattle.moment.proofs.Chains.{filled, then_fill}
 use Rattle.moment.proofs.Moment.start_of_month.Goals as goal
 
 pub returns : goal.returns
-returns c = then_fill first_of_month c.start_of_day-p.ensures (filled _ (month_kept (held c.start_of_day-p.result)) c.start_of_day-p.ensures.sane refl)
+returns c = then_fill first_of_month c.start_of_day-p.ensures (filled _ (month_kept (held c.start_of_day-p.result)) refl)

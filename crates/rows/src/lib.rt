@@ -1,0 +1,146 @@
+// What the test programs share: the walk over the lines of standard input, and the numbers that the lines write.
+#![tactic(auto)]
+
+ghost use Rattle.std.specs.Prelude.{◌≡◌, ◌≤◌, ◌<◌, IfSome, length, take};
+ghost use Rattle.std.specs.Io.KnownBytes.{Consumes};
+ghost use Rattle.rows.specs.Lines.{kept, CalledAtLines};
+
+use moment::{Clock, Offset};
+use std::io::{Read, Write};
+use std::num::f64_from_bits_with_nan;
+
+// Calls `row` with each line of the input, until that ends or can't be read. A line has its newline, and what its room doesn't hold is
+// dropped: its last bytes, and its newline too. What stands after the last newline is no line.
+pub fn each_line<R: Read, F: FnMut(&mut [u8])>(input: &mut R, room: &mut [u8], mut row: F)
+    requires { F.IsAlwaysCallable row }
+    ensures { CalledAtLines F.FnMut row (R.remaining input.old) (R.remaining input.new) (length room.old) }
+{
+    let mut block = [0u8; 65536];
+    let mut have = 0;
+    for _ in 0..u64::MAX {
+        let n = next(input, &mut block);
+        if n == 0 {
+            return;
+        }
+        for b in &block[..n] {
+            have = kept(room, have, *b);
+            if *b == b'\n' {
+                row(&mut room[..have]);
+                have = 0;
+            }
+        }
+    }
+}
+
+// How many bytes come into a block: none also where the input can't be read.
+fn next<R: Read>(input: &mut R, block: &mut [u8]) -> usize
+    ensures within { result ≤ length block.new }
+    ensures bytes { Consumes (R.remaining input.old) (R.remaining input.new) (take result block.new) }
+{
+    streams::read(input, block).unwrap_or(0)
+}
+
+// Keeps one byte more of a line, if it has room for it: how many are kept.
+fn kept(room: &mut [u8], have: usize, b: u8) -> usize
+    requires { have ≤ length room.old }
+    ensures within { result ≤ length room.new }
+    ensures bytes { take result room.new ≡ kept (length room.old) (take have room.old) b }
+{
+    if have == room.len() {
+        return have;
+    }
+    room[have] = b;
+    have + 1
+}
+
+// A line without its newline.
+pub fn content(line: &[u8]) -> &[u8] {
+    line.strip_suffix(b"\n").unwrap_or(line)
+}
+
+// Tabs and the newline become the zero bytes that end a field.
+pub fn end_fields(line: &mut [u8]) {
+    for b in line {
+        if *b == b'\t' || *b == b'\n' {
+            *b = 0;
+        }
+    }
+}
+
+// Writes a text. What can't be written is left out: the stored answers show that.
+pub fn say<W: Write>(out: &mut W, text: &[u8]) {
+    let _ = streams::write_all(out, text);
+}
+
+// ---- the first line: the clock, and after a tab the offset
+
+// The last millisecond that the clock may say, and the most seconds of an offset.
+const CLOCK_LIMIT: u64 = 253402300799999;
+
+const OFFSET_LIMIT: u64 = 86399;
+
+// What the digits at the front of a line say.
+pub fn clock(line: &[u8]) -> Clock {
+    Clock {
+        ms: number(line, CLOCK_LIMIT),
+    }
+}
+
+// What stands after the tab, which is a zero byte here, with a minus before the digits if it is west.
+pub fn offset(line: &[u8]) -> Offset {
+    let field = text::cut(line, 0).1.unwrap_or(b"");
+    let seconds = match field.strip_prefix(b"-") {
+        Some(digits) => -(number(digits, OFFSET_LIMIT) as i64),
+        None => number(field, OFFSET_LIMIT) as i64,
+    };
+    Offset { seconds }
+}
+
+// The number that the digits at the front write, as far as it is within a limit.
+fn number(s: &[u8], limit: u64) -> u64
+    requires { limit ≤ 253402300799999 }
+    ensures { result ≤ limit }
+{
+    let mut n = 0;
+    for b in s {
+        if !b.is_ascii_digit() {
+            return n;
+        }
+        let more = n * 10 + (*b - b'0') as u64;
+        if limit < more {
+            return n;
+        }
+        n = more;
+    }
+    n
+}
+
+// ---- an f64, as the 16 hexadecimal digits of its bits
+
+// A NaN is written `nan`.
+pub fn float<W: Write>(out: &mut W, x: f64) {
+    if x.is_nan() {
+        say(out, b"nan");
+    } else {
+        let _ = streams::print_hex(out, x.to_bits(), 16);
+    }
+}
+
+// Small letters alone.
+pub fn hex_digit(b: u8) -> Option<u8>
+    ensures { IfSome result (λ d. d < 16) }
+{
+    match b {
+        b'0'..=b'9' => Some(b - b'0'),
+        b'a'..=b'f' => Some(b - b'a' + 10),
+        _ => None,
+    }
+}
+
+// The f64 whose bits the digits write, the last sixteen where there are more. Any other byte counts as a zero.
+pub fn float_of(s: &[u8]) -> f64 {
+    let bits = s
+        .iter()
+        .fold(0, |bits, b| bits << 4 | hex_digit(*b).unwrap_or(0) as u64);
+    f64_from_bits_with_nan(bits)
+}
