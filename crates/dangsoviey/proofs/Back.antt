@@ -179,7 +179,7 @@ reads_back set ok z h k =
     let r : InRange t = record { from = omega arith; to = u } in
     record {
       stamped = written (full_of t);
-      is = stamp_text z r ∙ ap (λ (p : Moment). text (date_text p ++ ascii " " ++ time_text p)) (shows z r) ∙ ap text (same t l u);
+      is = sym (stamp_text z (in_range_lem (instant_of z) r.from r.to)) ∙ ap (λ (p : Moment). text (date_text p ++ ascii " " ++ time_text p)) (shows z r) ∙ ap text (same t l u);
       count = long t;
       back = instant_ms set ok (in_full t l u) ∙ ap (λ (n : ℕ). integer (since_epoch n)) (there t l u) ∙ ap integer (since z r);
     }

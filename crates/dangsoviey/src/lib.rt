@@ -3,16 +3,16 @@
 // Any numbers and any bytes may be handed in; nothing is kept and nothing allocated. A slice is a pointer and a length; with length 0
 // the pointer may be null. A time value is a number that says what is given (`given_of`): 0 nothing, 1 null, 2 the bytes of `value`,
 // 3 `integer`, 4 `real`, and any other number is null. What comes back is crate rules' answer as five numbers (`reply_of`), and the lent
-// buffer holds what `after` says.
+// buffer holds what `after` says. The parameters are the C interface's (include/), so they stay plain numbers and slices.
 #![tactic(auto)]
 
 ghost use Rattle.std.specs.Prelude.{◌≡◌, length};
-ghost use Rattle.rules.specs.Calls.{number_of, value_of, call, strftime, timediff, answered, after};
+ghost use Rattle.rules.specs.Calls.{value_of, call, strftime, timediff, answered, after};
 ghost use Rattle.rules.specs.Functions.{answer};
 ghost use Rattle.rules.specs.declared.Function.{Function};
-ghost use Rattle.dangsoviey.specs.Replies.{given_of, refused_by, reply_of};
+ghost use Rattle.dangsoviey.specs.Replies.{given_of, reply_of};
 
-use rules::{Answer, Given, Refusal, Setting};
+use rules::{Answer, Given, Setting, Unanswered};
 
 mod stamps;
 
@@ -41,60 +41,46 @@ fn given_of(given: u32, integer: i64, real: f64) -> Given
     }
 }
 
-// The refusals by their numbers in document 01.
-fn number_of(refusal: Refusal) -> u32
-    ensures { result ≡ number_of refusal }
-{
-    match refusal {
-        Refusal::Null => 1,
-        Refusal::Shape => 2,
-        Refusal::Bytes => 3,
-        Refusal::Setting => 4,
-        Refusal::Decimal => 5,
-        Refusal::Early => 6,
-    }
-}
+// The fields that a kind does not use are 0.
+const UNUSED: Reply = Reply {
+    kind: 0,
+    refusal: 0,
+    length: 0,
+    integer: 0,
+    real: 0.0,
+};
 
-// Nothing but why, and with 7 the length needed.
-fn refused(refusal: u32, length: usize) -> Reply
-    ensures { result ≡ refused_by refusal length }
-{
-    Reply {
-        kind: 0,
-        refusal,
-        length,
-        integer: 0,
-        real: 0.0,
-    }
-}
+impl From<Result<Answer, Unanswered>> for Reply {
+    ghost from_gives = { λ told reply. reply ≡ reply_of told };
 
-fn reply_of(answer: Answer) -> Reply
-    ensures { result ≡ reply_of answer }
-{
-    match answer {
-        Answer::Text(n) => Reply {
-            kind: 1,
-            refusal: 0,
-            length: n,
-            integer: 0,
-            real: 0.0,
-        },
-        Answer::Integer(n) => Reply {
-            kind: 2,
-            refusal: 0,
-            length: 0,
-            integer: n,
-            real: 0.0,
-        },
-        Answer::Real(x) => Reply {
-            kind: 3,
-            refusal: 0,
-            length: 0,
-            integer: 0,
-            real: x,
-        },
-        Answer::Refused(r) => refused(number_of(r), 0),
-        Answer::NoRoom(n) => refused(7, n),
+    #[tactic(auto, using(real::proofs::Literals::nil))]
+    fn from(told: Result<Answer, Unanswered>) -> Reply {
+        match told {
+            Ok(Answer::Text(length)) => Reply {
+                kind: 1,
+                length,
+                ..UNUSED
+            },
+            Ok(Answer::Integer(integer)) => Reply {
+                kind: 2,
+                integer,
+                ..UNUSED
+            },
+            Ok(Answer::Real(real)) => Reply {
+                kind: 3,
+                real,
+                ..UNUSED
+            },
+            Err(Unanswered::Refused(refusal)) => Reply {
+                refusal: refusal.into(),
+                ..UNUSED
+            },
+            Err(Unanswered::NoRoom(length)) => Reply {
+                refusal: 7,
+                length,
+                ..UNUSED
+            },
+        }
     }
 }
 
@@ -115,12 +101,9 @@ pub extern "C" fn dangsoviey_date(
     ensures value { result ≡ reply_of (answered (answer (record { clock = clock; offset = offset }) (call Function.Date (value_of (given_of given integer real) value.now) modifiers.now)) (length out.old)) }
     ensures out_after { out.new ≡ after (answer (record { clock = clock; offset = offset }) (call Function.Date (value_of (given_of given integer real) value.now) modifiers.now)) out.old }
 {
-    let set = Setting {
-        clock: clock,
-        offset: offset,
-    };
+    let set = Setting { clock, offset };
     let at = given_of(given, integer, real);
-    reply_of(datetime::date(set, at, value, modifiers, out))
+    datetime::date(set, at, value, modifiers, out).into()
 }
 
 // HH:MM:SS, and three decimals with subsec.
@@ -138,12 +121,9 @@ pub extern "C" fn dangsoviey_time(
     ensures value { result ≡ reply_of (answered (answer (record { clock = clock; offset = offset }) (call Function.Time (value_of (given_of given integer real) value.now) modifiers.now)) (length out.old)) }
     ensures out_after { out.new ≡ after (answer (record { clock = clock; offset = offset }) (call Function.Time (value_of (given_of given integer real) value.now) modifiers.now)) out.old }
 {
-    let set = Setting {
-        clock: clock,
-        offset: offset,
-    };
+    let set = Setting { clock, offset };
     let at = given_of(given, integer, real);
-    reply_of(datetime::time(set, at, value, modifiers, out))
+    datetime::time(set, at, value, modifiers, out).into()
 }
 
 // The date, a space and the time.
@@ -161,12 +141,9 @@ pub extern "C" fn dangsoviey_datetime(
     ensures value { result ≡ reply_of (answered (answer (record { clock = clock; offset = offset }) (call Function.Datetime (value_of (given_of given integer real) value.now) modifiers.now)) (length out.old)) }
     ensures out_after { out.new ≡ after (answer (record { clock = clock; offset = offset }) (call Function.Datetime (value_of (given_of given integer real) value.now) modifiers.now)) out.old }
 {
-    let set = Setting {
-        clock: clock,
-        offset: offset,
-    };
+    let set = Setting { clock, offset };
     let at = given_of(given, integer, real);
-    reply_of(datetime::datetime(set, at, value, modifiers, out))
+    datetime::datetime(set, at, value, modifiers, out).into()
 }
 
 // What a format says of the moment.
@@ -185,12 +162,9 @@ pub extern "C" fn dangsoviey_strftime(
     ensures value { result ≡ reply_of (answered (answer (record { clock = clock; offset = offset }) (strftime format.now (value_of (given_of given integer real) value.now) modifiers.now)) (length out.old)) }
     ensures out_after { out.new ≡ after (answer (record { clock = clock; offset = offset }) (strftime format.now (value_of (given_of given integer real) value.now) modifiers.now)) out.old }
 {
-    let set = Setting {
-        clock: clock,
-        offset: offset,
-    };
+    let set = Setting { clock, offset };
     let at = given_of(given, integer, real);
-    reply_of(datetime::strftime(set, format, at, value, modifiers, out))
+    datetime::strftime(set, format, at, value, modifiers, out).into()
 }
 
 // How far, and which way, the second value is moved to reach the first.
@@ -211,13 +185,10 @@ pub extern "C" fn dangsoviey_timediff(
     ensures value { result ≡ reply_of (answered (answer (record { clock = clock; offset = offset }) (timediff (value_of (given_of given_a integer_a real_a) a.now) (value_of (given_of given_b integer_b real_b) b.now))) (length out.old)) }
     ensures out_after { out.new ≡ after (answer (record { clock = clock; offset = offset }) (timediff (value_of (given_of given_a integer_a real_a) a.now) (value_of (given_of given_b integer_b real_b) b.now))) out.old }
 {
-    let set = Setting {
-        clock: clock,
-        offset: offset,
-    };
+    let set = Setting { clock, offset };
     let first = given_of(given_a, integer_a, real_a);
     let second = given_of(given_b, integer_b, real_b);
-    reply_of(datetime::timediff(set, first, a, second, b, out))
+    datetime::timediff(set, first, a, second, b, out).into()
 }
 
 // ---- numbers: no buffer is lent
@@ -235,12 +206,9 @@ pub extern "C" fn dangsoviey_julianday(
 ) -> Reply
     ensures { result ≡ reply_of (answered (answer (record { clock = clock; offset = offset }) (call Function.Julianday (value_of (given_of given integer real) value.now) modifiers.now)) 0) }
 {
-    let set = Setting {
-        clock: clock,
-        offset: offset,
-    };
+    let set = Setting { clock, offset };
     let at = given_of(given, integer, real);
-    reply_of(datetime::julianday(set, at, value, modifiers))
+    datetime::julianday(set, at, value, modifiers).into()
 }
 
 // Seconds since the Unix epoch: an integer, rounded by floor; with subsec an f64.
@@ -256,10 +224,7 @@ pub extern "C" fn dangsoviey_unixepoch(
 ) -> Reply
     ensures { result ≡ reply_of (answered (answer (record { clock = clock; offset = offset }) (call Function.Unixepoch (value_of (given_of given integer real) value.now) modifiers.now)) 0) }
 {
-    let set = Setting {
-        clock: clock,
-        offset: offset,
-    };
+    let set = Setting { clock, offset };
     let at = given_of(given, integer, real);
-    reply_of(datetime::unixepoch(set, at, value, modifiers))
+    datetime::unixepoch(set, at, value, modifiers).into()
 }

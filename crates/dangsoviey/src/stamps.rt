@@ -1,5 +1,6 @@
 // Whole Unix milliseconds, for loggers: of the moment that a call is about, and as a text.
 ghost use Rattle.std.specs.Prelude.{◌≡◌, length};
+ghost use Rattle.rules.specs.Calendar.{in_range};
 ghost use Rattle.rules.specs.Calls.{value_of, answered, after};
 ghost use Rattle.rules.specs.Writing.{since_epoch};
 ghost use Rattle.calendar.specs.Ranges.{InRange};
@@ -10,10 +11,10 @@ ghost use Rattle.dangsoviey.specs.Replies.{given_of, reply_of};
 ghost use Rattle.dangsoviey.specs.Milliseconds as rule;
 ghost use Rattle.dangsoviey.specs.Milliseconds.{instant_of};
 
-use crate::{Reply, given_of, reply_of};
+use crate::{Reply, given_of};
 use datetime::{calls, texts};
-use moment::{Moment, Step};
-use rules::{Answer, Given, Refusal, Setting};
+use moment::{Clock, Moment};
+use rules::{Answer, Given, Refusal, Setting, Unanswered};
 
 // The Unix epoch, as milliseconds are held.
 const UNIX_EPOCH: u64 = 9223582903614775808;
@@ -23,19 +24,15 @@ fn since_epoch(ms: u64) -> i64
     requires { InRange ms }
     ensures { result ≡ since_epoch ms }
 {
-    if ms >= UNIX_EPOCH {
-        return (ms - UNIX_EPOCH) as i64;
-    }
-    -1 - ((UNIX_EPOCH - 1 - ms) as i64)
+    ms.wrapping_sub(UNIX_EPOCH).cast_signed()
 }
 
-fn milliseconds(set: Setting, given: Given, value: &[u8], modifiers: &[u8]) -> Answer
+#[tactic(auto, unfolding(crate::specs::Milliseconds::milliseconds, rules::specs::Calls::answered))]
+fn milliseconds(set: Setting, given: Given, value: &[u8], modifiers: &[u8]) -> Result<Answer, Unanswered>
     ensures { result ≡ answered (rule.milliseconds set (value_of given value.now) modifiers.now) 0 }
 {
-    match calls::moment_of(set, given, value, modifiers) {
-        Step::Next(p) => Answer::Integer(since_epoch(p.ms)),
-        Step::Refused(r) => Answer::Refused(r),
-    }
+    let p = calls::moment_of(set, given, value, modifiers)?;
+    Ok(Answer::Integer(since_epoch(p.ms)))
 }
 
 // The moment that a call is about, as whole milliseconds from 1970-01-01 UTC: an integer.
@@ -51,12 +48,16 @@ pub extern "C" fn dangsoviey_milliseconds(
 ) -> Reply
     ensures { result ≡ reply_of (answered (rule.milliseconds (record { clock = clock; offset = offset }) (value_of (given_of given integer real) value.now) modifiers.now) 0) }
 {
-    let set = Setting {
-        clock: clock,
-        offset: offset,
-    };
+    let set = Setting { clock, offset };
     let at = given_of(given, integer, real);
-    reply_of(milliseconds(set, at, value, modifiers))
+    milliseconds(set, at, value, modifiers).into()
+}
+
+// Whether milliseconds from 1970 are those of the millisecond 0 to the last.
+fn in_range(ms: i64) -> bool
+    ensures { result ≡ in_range (instant_of ms) }
+{
+    -210866760000000 <= ms && ms <= 253402300799999
 }
 
 // The record of an instant in range, with subsec, all its fields filled.
@@ -64,17 +65,19 @@ fn stamped(ms: i64) -> Moment
     requires { InRange (instant_of ms) }
     ensures { (held result ≡ rule.stamped ms) × Full (held result) }
 {
-    Moment::blank().now(0).by_length(ms).with_subsec().fill()
+    Moment::blank()
+        .now(Clock { ms: 0 })
+        .by_length(ms)
+        .with_subsec()
+        .fill()
 }
 
-fn stamp(ms: i64, out: &mut [u8]) -> Answer
+#[tactic(auto, unfolding(crate::specs::Milliseconds::stamp, rules::specs::Calls::answered, rules::specs::Calls::after))]
+fn stamp(ms: i64, out: &mut [u8]) -> Result<Answer, Unanswered>
     ensures { Gives (rule.stamp ms) out.old out.new result }
 {
-    if ms < -210866760000000 {
-        return Answer::Refused(Refusal::Null);
-    }
-    if ms > 253402300799999 {
-        return Answer::Refused(Refusal::Null);
+    if !in_range(ms) {
+        return Err(Refusal::Null.into());
     }
     texts::datetime(stamped(ms), out)
 }
@@ -85,5 +88,5 @@ pub extern "C" fn dangsoviey_stamp(ms: i64, out: &mut [u8]) -> Reply
     ensures value { result ≡ reply_of (answered (rule.stamp ms) (length out.old)) }
     ensures out_after { out.new ≡ after (rule.stamp ms) out.old }
 {
-    reply_of(stamp(ms, out))
+    stamp(ms, out).into()
 }

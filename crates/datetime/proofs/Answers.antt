@@ -1,118 +1,79 @@
 -- From the moment that a call is about to the call's outcome. Assumes nothing.
 use Prim.Native.Nat.{ℕ}
-use mathlib.Core.Bool.{true, false}
-use mathlib.Core.List.{List, [], ◌∷◌, ◌++◌}
+use mathlib.Core.Bool.{Bool, true, false}
+use mathlib.Core.List.{List, [], ◌∷◌}
 use mathlib.Core.Path.{◌≡◌, refl, sym, ap, ◌∙◌, subst}
 use native.Mathlib.Omega.{arith}
-use lib.IntN.{ℤ}
-use lib.Ieee.{Float}
-use lib.ListN.{length}
-use Rattle.rules.specs.Basics.{ascii, Read, got, ◌>>=◌}
-use Rattle.rules.specs.Calls.{Value, Call, Outcome, text, refused, call, strftime, bad_shape, bad_bytes, answered}
-use Rattle.rules.specs.Functions.{moment_of, renewed, outcome_of, reading, settle, answer, opened}
+use borrow.Author.Tests.{eqb-true}
+use Rattle.std.specs.Prelude.{if◌then◌else◌, length, ◌==◌}
+use Rattle.rules.specs.Basics.{Read, got, other, refuse, ◌>>=◌}
+use Rattle.rules.specs.Calls.{Value, Call, Outcome, text, call, strftime, timediff, bad_shape, bad_bytes, bad_setting}
+use Rattle.rules.specs.Functions.{moment_of, present, ranged, renewed, outcome_of, reading, settle, answer, opened}
 use Rattle.rules.specs.Moments.{Moment, fill}
-use Rattle.rules.specs.Writing.{date_text, time_text, unix_real, unix_seconds, julian_real, formatted}
-use Rattle.rules.specs.declared.Answer.{Answer}
+use Rattle.rules.specs.Reading.{time_value}
+use Rattle.rules.specs.Writing.{difference, formatted}
 use Rattle.rules.specs.declared.Function.{Function}
 use Rattle.rules.specs.declared.Refusal.{Refusal}
 use Rattle.rules.specs.declared.Setting.{Setting}
-use Rattle.moment.specs.Held.{held}
-use Rattle.moment.specs.Ranges.{Full, read_of, Lands}
-use Rattle.moment.specs.declared.Moment as code
-use Rattle.moment.specs.declared.Step.{Step}
-use Rattle.moment.specs.declared.Step.TheVariants.{Next, Refused}
+use Rattle.moment.specs.Ranges.{Full}
 use Rattle.moment.proofs.Bounds.{fill_full, renewed_full}
-use Rattle.writing.specs.Printable.{Printable}
-use Rattle.datetime.specs.Given.{formatted_of}
+use Rattle.datetime.specs.Instants.{ranged_both, instants}
 use Rattle.datetime.specs.Opened.{Ready}
-use Rattle.datetime.proofs.Opened.{opened_then, answer_is}
+
+-- the tests stand before the first of what is then read
+tests_then : {A B : Type 0} (shape bytes setting : Bool) (r : Read A) (k : A → Read B) → (if shape then refuse Refusal.Shape else (if bytes then refuse Refusal.Bytes else (if setting then refuse Refusal.Setting else (◌>>=◌ r k)))) ≡ (◌>>=◌ (if shape then refuse Refusal.Shape else (if bytes then refuse Refusal.Bytes else (if setting then refuse Refusal.Setting else r))) k)
+tests_then true b t r k = refl
+tests_then false true t r k = refl
+tests_then false false true r k = refl
+tests_then false false false r k = refl
+
+opened_then : {A B : Type 0} (set : Setting) (c : Call) (r : Read A) (k : A → Read B) → opened set c (◌>>=◌ r k) ≡ ◌>>=◌ (opened set c r) k
+opened_then set c r k = tests_then (bad_shape c) (bad_bytes c) (bad_setting set) r k
+
+-- the outcome of one of the five functions of one time value: the tests before reading are the same for each of them
+pub called : (set : Setting) (f : Function) (v : Value) (m : List ℕ) → answer set (call f v m) ≡ settle (◌>>=◌ (opened set (call Function.Date v m) (moment_of set v m)) (λ (p : Moment). got (outcome_of f m p)))
+unfolding answer reading bad_shape bad_bytes
+called set f v m = ap settle (opened_then set (call f v m) (moment_of set v m) (λ (p : Moment). got (outcome_of f m p)))
+
+-- and of strftime
+pub called_format : (set : Setting) (f : List ℕ) (v : Value) (m : List ℕ) → answer set (strftime f v m) ≡ settle (◌>>=◌ (opened set (strftime f v m) (moment_of set v m)) (λ (p : Moment). ◌>>=◌ (formatted (fill p) f) (λ (t : List ℕ). got (text t))))
+unfolding answer reading
+called_format set f v m = ap settle (opened_then set (strftime f v m) (moment_of set v m) (λ (p : Moment). ◌>>=◌ (formatted (fill p) f) (λ (t : List ℕ). got (text t))))
 
 -- ---- the record
--- what holds of the record of a step that hands one back
-pub landed : (P : Moment → Type 0) {s : Step} (p : code.Moment) → s ≡ Next p → Lands P s → P (held p)
-landed P p e h = subst (λ (s : Step). Lands P s) e h
-
--- filled, with its fields as they are or renewed
+-- filled, with its fields as they are or renewed: it can be written
 pub filled : {p q : Moment} → Ready p → q ≡ fill p → Full q
 filled {p} r e = subst (λ (x : Moment). Full x) (sym e) (fill_full 16 p r.after r.ranged)
 
-pub filled_anew : (m : List ℕ) {p q : Moment} → Ready p → q ≡ renewed m p → (q ≡ renewed m p) × Full q
-filled_anew m {p} r e = (e, subst (λ (x : Moment). Full x) (sym e) (renewed_full 16 m p r.after r.ranged))
+pub filled_anew : (m : List ℕ) {p q : Moment} → Ready p → q ≡ renewed m p → Full q
+filled_anew m {p} r e = subst (λ (x : Moment). Full x) (sym e) (renewed_full 16 m p r.after r.ranged)
 
--- it can be written
-pub printable : {p : Moment} → Full p → Printable p
-printable f = record { sane = f.sane; range = f.ranged; years = f.years; stands = f.timed }
-
-pub renewed_none : (m : List ℕ) (p : Moment) → length m ≡ 0 → renewed [] p ≡ renewed m p
+pub renewed_none : (m : List ℕ) (p : Moment) → true ≡ (length m == 0) → renewed [] p ≡ renewed m p
 renewed_none [] p h = refl
-renewed_none (b ∷ m) p h = absurd (omega arith)
+renewed_none (b ∷ m) p h = absurd (omega (arith, eqb-true (length (b ∷ m)) 0 (sym h)))
 
-pub renewed_some : (m : List ℕ) (p : Moment) → (length m ≡ 0 → ⊥) → fill p ≡ renewed m p
-unfolding renewed
-renewed_some [] p h = absurd (h refl)
-renewed_some (b ∷ m) p h = refl
+-- ---- timediff reads its two instants, and then writes
+told : ℕ × ℕ → Read Outcome
+told t = got (text (difference t.0 t.1))
 
--- ---- seconds since the Unix epoch
-pub unix_real_is : (m : List ℕ) (p : Moment) {x : Float} → p.subsec ≡ true → x ≡ unix_real p.ms → Answer.Real x ≡ answered (outcome_of Function.Unixepoch m p) 0
-unfolding outcome_of answered
-unix_real_is m p e h = rw e (ap Answer.Real h)
+reading_is : (set : Setting) (a b : Value) → reading set (timediff a b) ≡ ◌>>=◌ (instants set.clock a b) told
+unfolding reading instants ranged_both told
+reading_is set a b = go (time_value set.clock (present a)) (time_value set.clock (present b))
+  where
+    both : (r s : Read Moment) → (◌>>=◌ r (λ (p : Moment). ◌>>=◌ s (λ (q : Moment). got (text (difference p.ms q.ms))))) ≡ ◌>>=◌ (◌>>=◌ r (λ (p : Moment). ◌>>=◌ s (λ (q : Moment). got (p.ms, q.ms)))) told
+    both (got p) (got q) = refl
+    both (got p) other = refl
+    both (got p) (refuse x) = refl
+    both other s = refl
+    both (refuse x) s = refl
 
-pub unix_seconds_is : (m : List ℕ) (p : Moment) {z : ℤ} → p.subsec ≡ false → z ≡ unix_seconds p.ms → Answer.Integer z ≡ answered (outcome_of Function.Unixepoch m p) 0
-unfolding outcome_of answered
-unix_seconds_is m p e h = rw e (ap Answer.Integer h)
+    go : (r s : Read Moment) → (◌>>=◌ r (λ (p : Moment). ◌>>=◌ s (λ (q : Moment). ◌>>=◌ (ranged p) (λ (p : Moment). ◌>>=◌ (ranged q) (λ (q : Moment). got (text (difference p.ms q.ms))))))) ≡ ◌>>=◌ (◌>>=◌ r (λ (p : Moment). ◌>>=◌ s (λ (q : Moment). ranged_both p q))) told
+    go (got p) (got q) = both (ranged p) (ranged q)
+    go (got p) other = refl
+    go (got p) (refuse x) = refl
+    go other s = refl
+    go (refuse x) s = refl
 
--- ---- a call reads a moment r, and then k of it
-step_answer : (set : Setting) (c : Call) (r : Read Moment) (k : Moment → Read Outcome) → reading set c ≡ ◌>>=◌ r k → (s t : Step) → s ≡ t → read_of s ≡ opened set c r → answer set c ≡ settle (◌>>=◌ (read_of t) k)
-step_answer set c r k e s t f h =
-    answer_is set c ∙ ap (λ (x : Read Outcome). settle (opened set c x)) e ∙ ap settle (opened_then set c r k) ∙ ap (λ (x : Read Moment). settle (◌>>=◌ x k)) (sym h) ∙ ap (λ (x : Step). settle (◌>>=◌ (read_of x) k)) f
-
--- the five functions of one time value: the tests before reading are the same for each of them
-module _ (set : Setting) (v : Value) (m : List ℕ) (s : Step) (h : read_of s ≡ opened set (call Function.Date v m) (moment_of set v m)) where
-  pub call_refused : (f : Function) (x : Refusal) → s ≡ Refused x → answer set (call f v m) ≡ refused x
-  unfolding reading bad_shape bad_bytes
-  call_refused f x e = step_answer set (call f v m) (moment_of set v m) (λ (p : Moment). got (outcome_of f m p)) refl s (Refused x) e h
-
-  -- of one that lends no buffer
-  pub number_refused : (f : Function) (x : Refusal) → s ≡ Refused x → Answer.Refused x ≡ answered (answer set (call f v m)) 0
-  unfolding answered
-  number_refused f x e = ap (λ (o : Outcome). answered o 0) (sym (call_refused f x e))
-
-  module _ (p : code.Moment) (e : s ≡ Next p) where
-    pub call_next : (f : Function) → answer set (call f v m) ≡ outcome_of f m (held p)
-    unfolding reading bad_shape bad_bytes
-    call_next f = step_answer set (call f v m) (moment_of set v m) (λ (p : Moment). got (outcome_of f m p)) refl s (Next p) e h
-
-    -- of the record renewed
-    module _ (q : code.Moment) (k : held q ≡ renewed m (held p)) where
-      pub date_answer : answer set (call Function.Date v m) ≡ text (date_text (held q))
-      unfolding outcome_of
-      date_answer = call_next Function.Date ∙ ap (λ (x : Moment). text (date_text x)) (sym k)
-
-      pub time_answer : answer set (call Function.Time v m) ≡ text (time_text (held q))
-      unfolding outcome_of
-      time_answer = call_next Function.Time ∙ ap (λ (x : Moment). text (time_text x)) (sym k)
-
-      pub datetime_answer : answer set (call Function.Datetime v m) ≡ text (date_text (held q) ++ ascii " " ++ time_text (held q))
-      unfolding outcome_of
-      datetime_answer = call_next Function.Datetime ∙ ap (λ (x : Moment). text (date_text x ++ ascii " " ++ time_text x)) (sym k)
-
-    -- numbers, which need no room
-    pub julianday_answer : {x : Float} → x ≡ julian_real p.ms → Answer.Real x ≡ answered (answer set (call Function.Julianday v m)) 0
-    unfolding outcome_of answered
-    julianday_answer k = ap Answer.Real k ∙ ap (λ (o : Outcome). answered o 0) (sym (call_next Function.Julianday))
-
-    pub unixepoch_answer : {r : Answer} → r ≡ answered (outcome_of Function.Unixepoch [] (held p)) 0 → r ≡ answered (answer set (call Function.Unixepoch v m)) 0
-    unfolding outcome_of
-    unixepoch_answer k = k ∙ ap (λ (o : Outcome). answered o 0) (sym (call_next Function.Unixepoch))
-
--- strftime
-module _ (set : Setting) (f : List ℕ) (v : Value) (m : List ℕ) (s : Step) (h : read_of s ≡ opened set (strftime f v m) (moment_of set v m)) where
-  pub strftime_refused : (x : Refusal) → s ≡ Refused x → answer set (strftime f v m) ≡ refused x
-  unfolding reading
-  strftime_refused x e = step_answer set (strftime f v m) (moment_of set v m) (λ (p : Moment). ◌>>=◌ (formatted (fill p) f) (λ (t : List ℕ). got (text t))) refl s (Refused x) e h
-
-  pub strftime_answer : (p : code.Moment) → s ≡ Next p → (q : code.Moment) → held q ≡ fill (held p) → answer set (strftime f v m) ≡ formatted_of (held q) f
-  unfolding reading
-  strftime_answer p e q k =
-      step_answer set (strftime f v m) (moment_of set v m) (λ (p : Moment). ◌>>=◌ (formatted (fill p) f) (λ (t : List ℕ). got (text t))) refl s (Next p) e h
-      ∙ ap (λ (x : Moment). formatted_of x f) (sym k)
+pub called_both : (set : Setting) (a b : Value) → answer set (timediff a b) ≡ settle (◌>>=◌ (opened set (timediff a b) (instants set.clock a b)) (λ (t : ℕ × ℕ). got (text (difference t.0 t.1))))
+unfolding answer told
+called_both set a b = ap (λ (r : Read Outcome). settle (opened set (timediff a b) r)) (reading_is set a b) ∙ ap settle (opened_then set (timediff a b) (instants set.clock a b) told)

@@ -1,15 +1,8 @@
--- Laws of what a call is, once nothing refuses it.
--- the tests before reading, and what is then read
+-- what refuses a call before anything is read
+pub mod Allowed
+-- the moment that a call is about
 pub mod Opened
--- what refuses a call, as the code finds it
-pub mod Faults
--- the moment of a call
-pub mod Moments
--- timediff's two instants
-pub mod Instants
--- what is given back of an outcome: a text in the lent buffer, or a refusal
+-- what is given back of an outcome
 pub mod Given
--- from the moment to the outcome
+-- from the moment that a call is about to the call's outcome
 pub mod Answers
--- from timediff's two instants to its outcome
-pub mod Differences

@@ -1,14 +1,15 @@
 -- What a public function hands back of an outcome.
-use Rattle.std.specs.Prelude.{ℕ, ◌≡◌, List, length}
+use Rattle.std.specs.Prelude.{ℕ, ◌≡◌, List, Result, length}
 use Rattle.rules.specs.Basics.{got, ◌>>=◌}
 use Rattle.rules.specs.Calls.{Outcome, text, answered, after}
 use Rattle.rules.specs.Functions.{settle}
 use Rattle.rules.specs.Moments.{Moment}
 use Rattle.rules.specs.Writing.{formatted}
 use Rattle.rules.specs.declared.Answer.{Answer}
+use Rattle.rules.specs.declared.Unanswered.{Unanswered}
 
 -- r comes back, and the lent buffer, which held `old`, holds `new`
-pub record Gives (o : Outcome) (old new : List ℕ) (r : Answer) : Type 0 where
+pub record Gives (o : Outcome) (old new : List ℕ) (r : Result Answer Unanswered) : Type 0 where
   pub is : r ≡ answered o (length old)
   pub bytes : new ≡ after o old
 

@@ -1,15 +1,11 @@
--- timediff's two instants, and the code's answer of them.
+-- timediff's two instants, and what the code hands back of them.
 use Rattle.std.specs.Prelude.{ℕ}
-use Rattle.rules.specs.Basics.{Read, got, refuse, ◌>>=◌}
+use Rattle.rules.specs.Basics.{Read, got, ◌>>=◌}
 use Rattle.rules.specs.Calls.{Value}
 use Rattle.rules.specs.Functions.{present, ranged}
 use Rattle.rules.specs.Moments.{Moment}
 use Rattle.rules.specs.Reading.{time_value}
 use Rattle.rules.specs.declared.Given.{Given}
-use Rattle.rules.specs.declared.Setting.{Setting}
-use Rattle.calendar.specs.Ranges.{InRange}
-use Rattle.datetime.specs.declared.calls.Pair.{Pair}
-use Rattle.datetime.specs.declared.calls.Pair.TheVariants.{Are, Refused}
 
 -- "final range" of the first, then of the second: their milliseconds
 unfoldable pub ranged_both : Moment → Moment → Read (ℕ × ℕ)
@@ -19,10 +15,10 @@ ranged_both p q = do
   got (p.ms, q.ms)
 
 -- "time value (timediff's first, then its second)"
-unfoldable pub instants : Setting → Value → Value → Read (ℕ × ℕ)
-instants set a b = do
-  p ← time_value set.clock (present a)
-  q ← time_value set.clock (present b)
+unfoldable pub instants : ℕ → Value → Value → Read (ℕ × ℕ)
+instants clock a b = do
+  p ← time_value clock (present a)
+  q ← time_value clock (present b)
   ranged_both p q
 
 -- "exactly two": an absent one is null
@@ -32,12 +28,3 @@ present_of Given.Null = Given.Null
 present_of Given.Bytes = Given.Bytes
 present_of (Given.Integer n) = Given.Integer n
 present_of (Given.Real x) = Given.Real x
-
--- ---- the code's answer
-abbrev pub instants_of : Pair → Read (ℕ × ℕ)
-instants_of (Are a b) = got (a, b)
-instants_of (Refused x) = refuse x
-
-abbrev pub BothInRange : Pair → Type 0
-BothInRange (Are a b) = InRange a × InRange b
-BothInRange (Refused x) = Unit {0}

@@ -1,5 +1,5 @@
 -- What the contracts cite beside crate rules' definitions.
+pub mod Allowed
 pub mod Opened
 pub mod Given
-pub mod Faults
 pub mod Instants

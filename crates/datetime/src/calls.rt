@@ -2,137 +2,106 @@
 //
 // "2, 3, 4 are tested first, in that order, over all arguments, whether used or not. Then 1 and 5 as reading meets them: time value
 // (timediff's first, then its second), modifiers left to right, final range."
-ghost use Rattle.std.specs.Prelude.{◌≡◌, false, ◌≤◌, length};
-ghost use Rattle.rules.specs.Calls.{value_of, bytes_of, over, high, modifiers_bad, bad_setting, call, strftime, timediff};
+ghost use Rattle.std.specs.Prelude.{◌≡◌, false, ◌≤◌, IfOk, OnOk, length};
+ghost use Rattle.rules.specs.Basics.{read_ok};
+ghost use Rattle.rules.specs.Calls.{value_of, bytes_of, over, high, modifiers_bad, bad_shape, bad_bytes, call, strftime, timediff};
 ghost use Rattle.rules.specs.Functions as rule;
 ghost use Rattle.rules.specs.Functions.{opened};
 ghost use Rattle.rules.specs.declared.Function.{Function};
+ghost use Rattle.calendar.specs.Ranges.{InRange};
 ghost use Rattle.moment.specs.Held.{held};
-ghost use Rattle.moment.specs.Ranges.{Sane, read_of, Lands};
+ghost use Rattle.moment.specs.Ranges.{read_of, Lands};
+ghost use Rattle.modifiers.specs.Buffer.{allowed_if};
+ghost use Rattle.datetime.specs.Allowed.{both_allowed, SettingAllowed};
+ghost use Rattle.datetime.specs.Instants.{ranged_both, instants, present_of};
 ghost use Rattle.datetime.specs.Opened.{Ready};
-ghost use Rattle.modifiers.specs.Buffer.{fault_in};
-ghost use Rattle.datetime.specs.Faults.{either_of, gated};
-ghost use Rattle.datetime.specs.Instants.{ranged_both, instants, present_of, instants_of, BothInRange};
 
 use modifiers::buffer;
-use modifiers::buffer::Fault;
-use moment::{Moment, Step};
+use moment::{Clock, Moment, Offset};
 use rules::{Given, Refusal, Setting};
 
-// What refuses a text of at most `most` bytes: refusal 2, refusal 3, or nothing.
-fn fault_of_text(s: &[u8], most: usize) -> Fault
-    ensures { result ≡ fault_in (over most s.now) (high s.now) }
+// 2: a text "has over" so many bytes; else 3: it "holds a byte above 127".
+#[tactic(auto, unfolding(rules::specs::Calls::high))]
+fn text_allowed(s: &[u8], most: usize) -> Result<(), Refusal>
+    ensures { result ≡ allowed_if (over most s.now) (high s.now) }
 {
     if s.len() > most {
-        return Fault::Shape;
+        return Err(Refusal::Shape);
     }
-    if text::is_ascii(s) {
-        return Fault::Nothing;
+    if !text::is_ascii(s) {
+        return Err(Refusal::Bytes);
     }
-    Fault::Bytes
+    Ok(())
 }
 
 // And a time value. What stands beside a value that is no bytes is not looked at.
-fn fault_of_value(given: Given, s: &[u8]) -> Fault
-    ensures { result ≡ fault_in (over 255 (bytes_of (value_of given s.now))) (high (bytes_of (value_of given s.now))) }
+#[tactic(auto, unfolding(rules::specs::Calls::high, rules::specs::Basics::every))]
+fn value_allowed(given: Given, s: &[u8]) -> Result<(), Refusal>
+    ensures { result ≡ allowed_if (over 255 (bytes_of (value_of given s.now))) (high (bytes_of (value_of given s.now))) }
 {
     match given {
-        Given::Bytes => fault_of_text(s, 255),
-        Given::Absent => Fault::Nothing,
-        Given::Null => Fault::Nothing,
-        Given::Integer(_) => Fault::Nothing,
-        Given::Real(_) => Fault::Nothing,
+        Given::Bytes => text_allowed(s, 255),
+        Given::Absent | Given::Null | Given::Integer(_) | Given::Real(_) => Ok(()),
     }
 }
 
 // 2 of either before 3 of either.
-fn either(a: Fault, b: Fault) -> Fault
-    ensures { result ≡ either_of a b }
+fn both_allowed(a: Result<(), Refusal>, b: Result<(), Refusal>) -> Result<(), Refusal>
+    ensures { result ≡ both_allowed a b }
 {
-    match a {
-        Fault::Shape => Fault::Shape,
-        Fault::Nothing => b,
-        Fault::Bytes => bytes_or(b),
+    match (a, b) {
+        (Err(Refusal::Bytes), Err(Refusal::Shape)) => b,
+        _ => a.and(b),
     }
 }
 
-fn bytes_or(b: Fault) -> Fault
-    ensures { result ≡ either_of Fault.Bytes b }
+// The texts of a call, "whether used or not".
+#[tactic(auto, using(crate::proofs::Allowed::both_allowed_if), unfolding(rules::specs::Calls::bad_shape, rules::specs::Calls::bad_bytes))]
+fn texts_allowed(format: &[u8], given: Given, value: &[u8], modifiers: &[u8]) -> Result<(), Refusal>
+    ensures { result ≡ allowed_if (bad_shape (strftime format.now (value_of given value.now) modifiers.now)) (bad_bytes (strftime format.now (value_of given value.now) modifiers.now)) }
 {
-    match b {
-        Fault::Shape => Fault::Shape,
-        Fault::Bytes => Fault::Bytes,
-        Fault::Nothing => Fault::Bytes,
-    }
-}
-
-// Whether a call is let through to reading.
-#[derive(Clone, Copy)]
-enum Gate {
-    Open,
-    Refused(Refusal),
+    let others = both_allowed(value_allowed(given, value), buffer::allowed(modifiers));
+    both_allowed(text_allowed(format, 1024), others)
 }
 
 // 4: "clock above 253402300799999, or offset outside -86399 to 86399"
-fn is_bad(set: Setting) -> bool
-    ensures { result ≡ bad_setting set }
+#[tactic(auto, unfolding(rules::specs::Calls::bad_setting))]
+fn setting_allowed(set: Setting) -> Result<(Clock, Offset), Refusal>
+    ensures { SettingAllowed set result }
 {
-    if set.clock > 253402300799999 {
-        return true;
-    }
-    if set.offset > 86399 {
-        return true;
-    }
-    set.offset < -86399
-}
-
-fn tested(fault: Fault, set: Setting) -> Gate
-    ensures { result ≡ gated fault set }
-{
-    match fault {
-        Fault::Shape => Gate::Refused(Refusal::Shape),
-        Fault::Bytes => Gate::Refused(Refusal::Bytes),
-        Fault::Nothing => {
-            if is_bad(set) {
-                return Gate::Refused(Refusal::Setting);
-            }
-            Gate::Open
-        }
-    }
+    let clock = Clock::new(set.clock).ok_or(Refusal::Setting)?;
+    let offset = Offset::new(set.offset).ok_or(Refusal::Setting)?;
+    Ok((clock, offset))
 }
 
 // ---- one time value
 
 // "time value (..), modifiers left to right, final range"
-fn read(set: Setting, given: Given, value: &[u8], modifiers: &[u8]) -> Step
-    requires { (over 255 (bytes_of (value_of given value.now)) ≡ false) × (modifiers_bad modifiers.now ≡ false) × (bad_setting set ≡ false) }
-    ensures result_value { read_of result ≡ rule.moment_of set (value_of given value.now) modifiers.now }
+#[tactic(auto, unfolding(rules::specs::Functions::moment_of))]
+fn read(clock: Clock, offset: Offset, given: Given, value: &[u8], modifiers: &[u8]) -> Result<Moment, Refusal>
+    requires { (over 255 (bytes_of (value_of given value.now)) ≡ false) × (modifiers_bad modifiers.now ≡ false) }
+    ensures result_value { read_of result ≡ rule.moment_of (record { clock = clock.ms; offset = offset.seconds }) (value_of given value.now) modifiers.now }
     ensures lands { Lands Ready result }
 {
-    match reading::time_value(given, value, set.clock) {
-        Step::Next(p) => match modifiers::modified(set.offset, modifiers, p) {
-            Step::Next(q) => q.ranged(),
-            Step::Refused(r) => Step::Refused(r),
-        },
-        Step::Refused(r) => Step::Refused(r),
-    }
+    let p = reading::time_value(given, value, clock)?;
+    modifiers::modified(offset, modifiers, p)?.ranged()
 }
 
 // The moment that a call is about, of a format and one time value.
-pub fn moment_for(set: Setting, format: &[u8], given: Given, value: &[u8], modifiers: &[u8]) -> Step
+#[tactic(auto, unfolding(rules::specs::Calls::bad_shape))]
+pub fn moment_for(set: Setting, format: &[u8], given: Given, value: &[u8], modifiers: &[u8]) -> Result<Moment, Refusal>
     ensures result_value { read_of result ≡ opened set (strftime format.now (value_of given value.now) modifiers.now) (rule.moment_of set (value_of given value.now) modifiers.now) }
     ensures lands { Lands Ready result }
-    ensures short_format { Lands (λ _. length format.now ≤ 1024) result }
+    ensures short_format { OnOk result (length format.now ≤ 1024) }
 {
-    let others = either(fault_of_value(given, value), buffer::fault_of(modifiers));
-    match tested(either(fault_of_text(format, 1024), others), set) {
-        Gate::Open => read(set, given, value, modifiers),
-        Gate::Refused(r) => Step::Refused(r),
-    }
+    texts_allowed(format, given, value, modifiers)?;
+    let (clock, offset) = setting_allowed(set)?;
+    read(clock, offset, given, value, modifiers)
 }
 
 // And where there is no format: an empty one is never refused.
-pub fn moment_of(set: Setting, given: Given, value: &[u8], modifiers: &[u8]) -> Step
+#[tactic(auto, unfolding(rules::specs::Calls::bad_shape, rules::specs::Calls::bad_bytes, rules::specs::Calls::high, rules::specs::Basics::every))]
+pub fn moment_of(set: Setting, given: Given, value: &[u8], modifiers: &[u8]) -> Result<Moment, Refusal>
     ensures result_value { read_of result ≡ opened set (call Function.Date (value_of given value.now) modifiers.now) (rule.moment_of set (value_of given value.now) modifiers.now) }
     ensures lands { Lands Ready result }
 {
@@ -141,66 +110,44 @@ pub fn moment_of(set: Setting, given: Given, value: &[u8], modifiers: &[u8]) -> 
 
 // ---- timediff's two
 
-// Two instants, in milliseconds as they are held.
-#[derive(Clone, Copy)]
-pub enum Pair {
-    Are(u64, u64),
-    Refused(Refusal),
-}
-
 // "exactly two": an absent one is null.
 fn present(given: Given) -> Given
     ensures { result ≡ present_of given }
 {
     match given {
         Given::Absent => Given::Null,
-        Given::Null => given,
-        Given::Bytes => given,
-        Given::Integer(_) => given,
-        Given::Real(_) => given,
+        Given::Null | Given::Bytes | Given::Integer(_) | Given::Real(_) => given,
     }
 }
 
 // "final range" of both, which is refused alike.
-fn both_ranged(p: Moment, q: Moment) -> Pair
-    requires { Sane (held p) × Sane (held q) }
-    ensures result_value { instants_of result ≡ ranged_both (held p) (held q) }
-    ensures both_in_range { BothInRange result }
+#[tactic(auto, unfolding(crate::specs::Instants::ranged_both))]
+fn both_ranged(p: Moment, q: Moment) -> Result<(u64, u64), Refusal>
+    ensures result_value { read_ok (λ r. r) result ≡ ranged_both (held p) (held q) }
+    ensures both_in_range { IfOk result (λ r. InRange r.0 × InRange r.1) }
 {
-    let a = p.count_ms();
-    let b = q.count_ms();
-    if !a.in_range() {
-        return Pair::Refused(Refusal::Null);
-    }
-    if !b.in_range() {
-        return Pair::Refused(Refusal::Null);
-    }
-    Pair::Are(a.ms, b.ms)
+    Ok((p.ranged()?.ms, q.ranged()?.ms))
 }
 
 // "time value (timediff's first, then its second)": both are read before either's range is tested.
-fn both(set: Setting, given_a: Given, a: &[u8], given_b: Given, b: &[u8]) -> Pair
-    requires { (over 255 (bytes_of (value_of given_a a.now)) ≡ false) × (over 255 (bytes_of (value_of given_b b.now)) ≡ false) × (bad_setting set ≡ false) }
-    ensures result_value { instants_of result ≡ instants set (value_of given_a a.now) (value_of given_b b.now) }
-    ensures both_in_range { BothInRange result }
+#[tactic(auto, unfolding(crate::specs::Instants::instants))]
+fn both(clock: Clock, given_a: Given, a: &[u8], given_b: Given, b: &[u8]) -> Result<(u64, u64), Refusal>
+    requires { (over 255 (bytes_of (value_of given_a a.now)) ≡ false) × (over 255 (bytes_of (value_of given_b b.now)) ≡ false) }
+    ensures result_value { read_ok (λ r. r) result ≡ instants clock.ms (value_of given_a a.now) (value_of given_b b.now) }
+    ensures both_in_range { IfOk result (λ r. InRange r.0 × InRange r.1) }
 {
-    match reading::time_value(present(given_a), a, set.clock) {
-        Step::Next(p) => match reading::time_value(present(given_b), b, set.clock) {
-            Step::Next(q) => both_ranged(p, q),
-            Step::Refused(r) => Pair::Refused(r),
-        },
-        Step::Refused(r) => Pair::Refused(r),
-    }
+    let p = reading::time_value(present(given_a), a, clock)?;
+    let q = reading::time_value(present(given_b), b, clock)?;
+    both_ranged(p, q)
 }
 
-// The two instants that a call of timediff is about.
-pub fn instants(set: Setting, given_a: Given, a: &[u8], given_b: Given, b: &[u8]) -> Pair
-    ensures result_value { instants_of result ≡ opened set (timediff (value_of given_a a.now) (value_of given_b b.now)) (instants set (value_of given_a a.now) (value_of given_b b.now)) }
-    ensures both_in_range { BothInRange result }
+// The two instants that a call of timediff is about, in milliseconds as they are held.
+#[tactic(auto, unfolding(rules::specs::Calls::bad_shape, rules::specs::Calls::bad_bytes))]
+pub fn instants(set: Setting, given_a: Given, a: &[u8], given_b: Given, b: &[u8]) -> Result<(u64, u64), Refusal>
+    ensures result_value { read_ok (λ r. r) result ≡ opened set (timediff (value_of given_a a.now) (value_of given_b b.now)) (instants set.clock (value_of given_a a.now) (value_of given_b b.now)) }
+    ensures both_in_range { IfOk result (λ r. InRange r.0 × InRange r.1) }
 {
-    let fault = either(fault_of_value(given_a, a), fault_of_value(given_b, b));
-    match tested(fault, set) {
-        Gate::Open => both(set, given_a, a, given_b, b),
-        Gate::Refused(r) => Pair::Refused(r),
-    }
+    both_allowed(value_allowed(given_a, a), value_allowed(given_b, b))?;
+    let (clock, _) = setting_allowed(set)?;
+    both(clock, given_a, a, given_b, b)
 }

@@ -16,84 +16,81 @@ ghost use Rattle.moment.specs.Held.{held};
 ghost use Rattle.moment.specs.Ranges.{Full};
 ghost use Rattle.datetime.specs.Opened.{Ready};
 
-use calls::Pair;
-use moment::{Moment, Step};
-use rules::{Answer, Given, Setting};
+use moment::Moment;
+use rules::{Answer, Given, Setting, Unanswered};
 
 pub mod calls;
 pub mod texts;
 
 // "With no modifier, date, time and datetime renew a day above 28 from the milliseconds."
+#[tactic(auto, unfolding(rules::specs::Functions::renewed))]
 fn renewed(modifiers: &[u8], p: Moment) -> Moment
     requires { Ready (held p) }
-    ensures { (held result ≡ rule.renewed modifiers.now (held p)) × Full (held result) }
+    ensures value { held result ≡ rule.renewed modifiers.now (held p) }
+    ensures full { Full (held result) }
 {
-    if modifiers.len() == 0 {
+    if modifiers.is_empty() {
         return p.renewed();
     }
     p.fill()
 }
 
 // YYYY-MM-DD.
-pub fn date(set: Setting, given: Given, value: &[u8], modifiers: &[u8], out: &mut [u8]) -> Answer
+#[tactic(auto, using(crate::proofs::Answers::called), unfolding(rules::specs::Calls::answered, rules::specs::Calls::after, rules::specs::Functions::outcome_of))]
+pub fn date(set: Setting, given: Given, value: &[u8], modifiers: &[u8], out: &mut [u8]) -> Result<Answer, Unanswered>
     ensures value { result ≡ answered (answer set (call Function.Date (value_of given value.now) modifiers.now)) (length out.old) }
     ensures out_after { out.new ≡ after (answer set (call Function.Date (value_of given value.now) modifiers.now)) out.old }
 {
-    match calls::moment_of(set, given, value, modifiers) {
-        Step::Next(p) => texts::date(renewed(modifiers, p), out),
-        Step::Refused(r) => Answer::Refused(r),
-    }
+    let p = calls::moment_of(set, given, value, modifiers)?;
+    texts::date(renewed(modifiers, p), out)
 }
 
 // HH:MM:SS, and three decimals with subsec.
-pub fn time(set: Setting, given: Given, value: &[u8], modifiers: &[u8], out: &mut [u8]) -> Answer
+#[tactic(auto, using(crate::proofs::Answers::called), unfolding(rules::specs::Calls::answered, rules::specs::Calls::after, rules::specs::Functions::outcome_of))]
+pub fn time(set: Setting, given: Given, value: &[u8], modifiers: &[u8], out: &mut [u8]) -> Result<Answer, Unanswered>
     ensures value { result ≡ answered (answer set (call Function.Time (value_of given value.now) modifiers.now)) (length out.old) }
     ensures out_after { out.new ≡ after (answer set (call Function.Time (value_of given value.now) modifiers.now)) out.old }
 {
-    match calls::moment_of(set, given, value, modifiers) {
-        Step::Next(p) => texts::time(renewed(modifiers, p), out),
-        Step::Refused(r) => Answer::Refused(r),
-    }
+    let p = calls::moment_of(set, given, value, modifiers)?;
+    texts::time(renewed(modifiers, p), out)
 }
 
 // The date, a space and the time.
+#[tactic(auto, using(crate::proofs::Answers::called), unfolding(rules::specs::Calls::answered, rules::specs::Calls::after, rules::specs::Functions::outcome_of))]
 pub fn datetime(
     set: Setting,
     given: Given,
     value: &[u8],
     modifiers: &[u8],
     out: &mut [u8],
-) -> Answer
+) -> Result<Answer, Unanswered>
     ensures value { result ≡ answered (answer set (call Function.Datetime (value_of given value.now) modifiers.now)) (length out.old) }
     ensures out_after { out.new ≡ after (answer set (call Function.Datetime (value_of given value.now) modifiers.now)) out.old }
 {
-    match calls::moment_of(set, given, value, modifiers) {
-        Step::Next(p) => texts::datetime(renewed(modifiers, p), out),
-        Step::Refused(r) => Answer::Refused(r),
-    }
+    let p = calls::moment_of(set, given, value, modifiers)?;
+    texts::datetime(renewed(modifiers, p), out)
 }
 
 // The Julian day, as an f64. The buffer is not touched: none is lent.
-pub fn julianday(set: Setting, given: Given, value: &[u8], modifiers: &[u8]) -> Answer
+#[tactic(auto, using(crate::proofs::Answers::called), unfolding(rules::specs::Calls::answered, rules::specs::Functions::outcome_of))]
+pub fn julianday(set: Setting, given: Given, value: &[u8], modifiers: &[u8]) -> Result<Answer, Unanswered>
     ensures { result ≡ answered (answer set (call Function.Julianday (value_of given value.now) modifiers.now)) 0 }
 {
-    match calls::moment_of(set, given, value, modifiers) {
-        Step::Next(p) => Answer::Real(real::julian_real(p.ms)),
-        Step::Refused(r) => Answer::Refused(r),
-    }
+    let p = calls::moment_of(set, given, value, modifiers)?;
+    Ok(Answer::Real(real::julian_real(p.ms)))
 }
 
 // Seconds since the Unix epoch: an integer, rounded by floor; with subsec an f64.
-pub fn unixepoch(set: Setting, given: Given, value: &[u8], modifiers: &[u8]) -> Answer
+#[tactic(auto, using(crate::proofs::Answers::called), unfolding(rules::specs::Calls::answered, rules::specs::Functions::outcome_of))]
+pub fn unixepoch(set: Setting, given: Given, value: &[u8], modifiers: &[u8]) -> Result<Answer, Unanswered>
     ensures { result ≡ answered (answer set (call Function.Unixepoch (value_of given value.now) modifiers.now)) 0 }
 {
-    match calls::moment_of(set, given, value, modifiers) {
-        Step::Next(p) => texts::unix(p),
-        Step::Refused(r) => Answer::Refused(r),
-    }
+    let p = calls::moment_of(set, given, value, modifiers)?;
+    Ok(texts::unix(p))
 }
 
 // What a format says of the moment.
+#[tactic(auto, using(crate::proofs::Answers::called_format), unfolding(rules::specs::Calls::answered, rules::specs::Calls::after))]
 pub fn strftime(
     set: Setting,
     format: &[u8],
@@ -101,17 +98,16 @@ pub fn strftime(
     value: &[u8],
     modifiers: &[u8],
     out: &mut [u8],
-) -> Answer
+) -> Result<Answer, Unanswered>
     ensures value { result ≡ answered (answer set (strftime format.now (value_of given value.now) modifiers.now)) (length out.old) }
     ensures out_after { out.new ≡ after (answer set (strftime format.now (value_of given value.now) modifiers.now)) out.old }
 {
-    match calls::moment_for(set, format, given, value, modifiers) {
-        Step::Next(p) => texts::formatted(p.fill(), format, out),
-        Step::Refused(r) => Answer::Refused(r),
-    }
+    let p = calls::moment_for(set, format, given, value, modifiers)?;
+    texts::formatted(p.fill(), format, out)
 }
 
 // How far, and which way, the second value is moved to reach the first.
+#[tactic(auto, using(crate::proofs::Answers::called_both), unfolding(rules::specs::Calls::answered, rules::specs::Calls::after))]
 pub fn timediff(
     set: Setting,
     given_a: Given,
@@ -119,12 +115,10 @@ pub fn timediff(
     given_b: Given,
     b: &[u8],
     out: &mut [u8],
-) -> Answer
+) -> Result<Answer, Unanswered>
     ensures value { result ≡ answered (answer set (timediff (value_of given_a a.now) (value_of given_b b.now))) (length out.old) }
     ensures out_after { out.new ≡ after (answer set (timediff (value_of given_a a.now) (value_of given_b b.now))) out.old }
 {
-    match calls::instants(set, given_a, a, given_b, b) {
-        Pair::Are(x, y) => texts::difference(x, y, out),
-        Pair::Refused(r) => Answer::Refused(r),
-    }
+    let (x, y) = calls::instants(set, given_a, a, given_b, b)?;
+    texts::difference(x, y, out)
 }

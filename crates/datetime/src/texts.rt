@@ -1,77 +1,78 @@
 // Answers of a record that passed the final range: a text in the lent buffer, or a number.
 //
 // The length is known before the first byte is written, so that refusal 7 changes none.
-ghost use Rattle.std.specs.Prelude.{◌≤◌, length, ◌≡◌, [], ◌++◌};
+ghost use Rattle.std.specs.Prelude.{◌≡◌, ◌≤◌, ◌<◌, [], ◌++◌, length, MatchResult, Ok};
 ghost use Rattle.rules.specs.Basics.{ascii};
 ghost use Rattle.rules.specs.Calls.{text, answered};
 ghost use Rattle.rules.specs.Functions.{outcome_of};
 ghost use Rattle.rules.specs.Writing as rule;
 ghost use Rattle.rules.specs.declared.Function.{Function};
+ghost use Rattle.rules.specs.declared.Unanswered.{Unanswered};
 ghost use Rattle.calendar.specs.Ranges.{InRange};
 ghost use Rattle.moment.specs.Held.{held};
 ghost use Rattle.moment.specs.Ranges.{Full};
-ghost use Rattle.digits.specs.Writers.{Room};
-ghost use Rattle.writing.specs.Formats.{text_of, IsText};
 ghost use Rattle.datetime.specs.Given.{Gives, formatted_of};
 
 use digits::put_byte;
 use moment::Moment;
-use rules::Answer;
-use writing::{Checked, Put};
+use rules::{Answer, Unanswered};
 
-pub fn date(p: Moment, out: &mut [u8]) -> Answer
+// 7: "the answer is longer than the buffer; the length needed comes back with it"
+fn has_room(room: usize, length: usize) -> Result<(), Unanswered>
+    ensures { MatchResult result (λ _. length ≤ room) (λ e. (room < length) × (e ≡ Unanswered.NoRoom length)) }
+{
+    if room < length {
+        return Err(Unanswered::NoRoom(length));
+    }
+    Ok(())
+}
+
+#[tactic(auto, unfolding(rules::specs::Calls::answered, rules::specs::Calls::after))]
+pub fn date(p: Moment, out: &mut [u8]) -> Result<Answer, Unanswered>
     requires { Full (held p) }
     ensures { Gives (text (rule.date_text (held p))) out.old out.new result }
 {
-    let n = writing::date_length(p);
-    if out.len() < n {
-        return Answer::NoRoom(n);
-    }
-    Answer::Text(writing::put_date(out, 0, p))
+    has_room(out.len(), writing::date_length(p))?;
+    Ok(Answer::Text(writing::put_date(out, 0, p)))
 }
 
-pub fn time(p: Moment, out: &mut [u8]) -> Answer
+#[tactic(auto, unfolding(rules::specs::Calls::answered, rules::specs::Calls::after))]
+pub fn time(p: Moment, out: &mut [u8]) -> Result<Answer, Unanswered>
     requires { Full (held p) }
     ensures { Gives (text (rule.time_text (held p))) out.old out.new result }
 {
-    let n = writing::time_length(p);
-    if out.len() < n {
-        return Answer::NoRoom(n);
-    }
-    Answer::Text(writing::put_time(out, 0, p))
+    has_room(out.len(), writing::time_length(p))?;
+    Ok(Answer::Text(writing::put_time(out, 0, p)))
 }
 
 // A date, a space and a time.
-pub fn datetime(p: Moment, out: &mut [u8]) -> Answer
+#[tactic(auto, using(crate::proofs::Given::parted_length), unfolding(rules::specs::Calls::answered, rules::specs::Calls::after))]
+pub fn datetime(p: Moment, out: &mut [u8]) -> Result<Answer, Unanswered>
     requires { Full (held p) }
     ensures { Gives (text (rule.date_text (held p) ++ ascii " " ++ rule.time_text (held p))) out.old out.new result }
 {
-    let n = writing::date_length(p) + 1 + writing::time_length(p);
-    if out.len() < n {
-        return Answer::NoRoom(n);
-    }
+    has_room(out.len(), writing::date_length(p) + 1 + writing::time_length(p))?;
     let space = writing::put_date(out, 0, p);
     let after = put_byte(out, space, b' ');
-    Answer::Text(writing::put_time(out, after, p))
+    Ok(Answer::Text(writing::put_time(out, after, p)))
 }
 
 // timediff's text.
-pub fn difference(a: u64, b: u64, out: &mut [u8]) -> Answer
+#[tactic(auto, unfolding(rules::specs::Calls::answered, rules::specs::Calls::after))]
+pub fn difference(a: u64, b: u64, out: &mut [u8]) -> Result<Answer, Unanswered>
     requires { InRange a × InRange b }
     ensures { Gives (text (rule.difference a b)) out.old out.new result }
 {
     let span = timediff::difference(a, b);
-    let n = timediff::span_length(span);
-    if out.len() < n {
-        return Answer::NoRoom(n);
-    }
-    Answer::Text(timediff::put_span(out, 0, span))
+    has_room(out.len(), timediff::span_length(span))?;
+    Ok(Answer::Text(timediff::put_span(out, 0, span)))
 }
 
 // Seconds since the Unix epoch. With subsec: an f64.
+#[tactic(auto, unfolding(rules::specs::Calls::answered, rules::specs::Functions::outcome_of))]
 pub fn unix(p: Moment) -> Answer
     requires { InRange p.ms }
-    ensures { result ≡ answered (outcome_of Function.Unixepoch [] (held p)) 0 }
+    ensures { Ok result ≡ answered (outcome_of Function.Unixepoch [] (held p)) 0 }
 {
     if p.subsec {
         return Answer::Real(real::unix_real(p.ms));
@@ -80,34 +81,14 @@ pub fn unix(p: Moment) -> Answer
 }
 
 // What a format says. An exact length is worked out only where the bound has no room.
-pub fn formatted(p: Moment, format: &[u8], out: &mut [u8]) -> Answer
+#[tactic(auto, using(crate::proofs::Given::gives_text), unfolding(rules::specs::Calls::answered, rules::specs::Calls::after))]
+pub fn formatted(p: Moment, format: &[u8], out: &mut [u8]) -> Result<Answer, Unanswered>
     requires { Full (held p) × (length format.now ≤ 1024) }
     ensures { Gives (formatted_of (held p) format.now) out.old out.new result }
 {
-    match writing::check(p, format) {
-        Checked::Refused(r) => Answer::Refused(r),
-        Checked::Most(most) => {
-            if most <= out.len() {
-                return put(p, format, out);
-            }
-            let n = writing::format_length(p, format);
-            if out.len() < n {
-                return Answer::NoRoom(n);
-            }
-            put(p, format, out)
-        }
+    let most = writing::check(p, format)?;
+    if out.len() < most {
+        has_room(out.len(), writing::format_length(p, format))?;
     }
-}
-
-// A format that is let through, in room that suffices.
-fn put(p: Moment, format: &[u8], out: &mut [u8]) -> Answer
-    requires full { Full (held p) }
-    requires is_text { IsText (rule.formatted (held p) format.now) }
-    requires room { Room out.old 0 (text_of (rule.formatted (held p) format.now)) }
-    ensures { Gives (formatted_of (held p) format.now) out.old out.new result }
-{
-    match writing::put_format(out, 0, p, format) {
-        Put::At(n) => Answer::Text(n),
-        Put::Refused(r) => Answer::Refused(r),
-    }
+    Ok(Answer::Text(writing::put_format(out, 0, p, format)?))
 }

@@ -6,6 +6,7 @@ use mathlib.Core.List.{List, [], ◌∷◌, append-nil}
 use native.Mathlib.Omega.{arith}
 use borrow.Author.Tests.{le-ltb}
 use lib.ListN.{length, drop_of_length-le}
+use Rattle.std.specs.Prelude.{Ok}
 use Rattle.rules.specs.Basics.{every, got}
 use Rattle.rules.specs.Calendar.{year, day_length, civil}
 use Rattle.rules.specs.Calls.{Call, call, strftime, timediff, text, modifiers, last_ended, modifiers_bad, bad_shape, high, bad_bytes, bad_setting, answered, after}
@@ -133,7 +134,7 @@ module _ (a b : Instant) where
           (rw (not_high (in_written a.stamp a.millis a.full), not_high (in_written b.stamp b.millis b.full)))
           ∙ ap settle (difference_read (given a set) (given b set)) ∙ ap text text_is
 
-      comes : answered (answer set (timediff (value a) (value b))) 24 ≡ Answer.Text 24
+      comes : answered (answer set (timediff (value a) (value b))) 24 ≡ Ok (Answer.Text 24)
       unfolding answered
       comes = rw (answers_text, bytes_are)
 

@@ -4,7 +4,7 @@
 -- months are the most that do not carry B past A; its days are at most 30."
 --
 -- Said over rules' `answer`, `answered`, `after` and `moment_of`. The proof is `demand_3` in proofs/Demand.antt.
-use Rattle.std.specs.Prelude.{if◌then◌else◌, ℕ, ◌+◌, ◌-◌, ◌*◌, ◌/◌, ◌≤◌, ◌<◌, Bool, false, ◌≡◌, List, [], ◌∷◌, ◌++◌, leb, length}
+use Rattle.std.specs.Prelude.{if◌then◌else◌, ℕ, ◌+◌, ◌-◌, ◌*◌, ◌/◌, ◌≤◌, ◌<◌, Bool, false, ◌≡◌, List, [], ◌∷◌, ◌++◌, leb, length, Ok}
 use Rattle.rules.specs.Basics.{ascii, got}
 use Rattle.rules.specs.Calendar.{day_length}
 use Rattle.rules.specs.Calls.{Value, bytes, call, strftime, timediff, text, modifiers, bad_setting, answered, after}
@@ -67,7 +67,7 @@ pub record Kept (set : Setting) (a b : Instant) : Type 0 where
   pub rest : ℕ
   pub answers : answer set (timediff (value a) (value b)) ≡ text (shift_by plus months rest)
   -- "given a buffer of 24 bytes": 24 comes back, and the buffer then holds that text
-  pub comes_back : answered (answer set (timediff (value a) (value b))) 24 ≡ Answer.Text 24
+  pub comes_back : answered (answer set (timediff (value a) (value b))) 24 ≡ Ok (Answer.Text 24)
   pub holds : (buffer : List ℕ) → length buffer ≡ 24 → after (answer set (timediff (value a) (value b))) buffer ≡ shift_by plus months rest
   -- "that text as B's only modifier reaches A to the millisecond"
   pub only_one : modifiers (alone (shift_by plus months rest)) ≡ shift_by plus months rest ∷ []

@@ -6,6 +6,9 @@ use mathlib.Core.Path.{◌≡◌, refl, sym, ap, ◌∙◌, subst}
 use native.Mathlib.Omega.{arith}
 use borrow.Author.Tests.{leb-true, leb-false, le-leb, lt-leb}
 use lib.Dec.{leb}
+use lib.Ieee.{Float}
+use lib.IntN.{ℤ}
+use Rattle.std.specs.Prelude.{Result, Ok, Err}
 use lib.ListN.{length, take, drop, set, get_or, length-append, take-append-drop}
 use lib.Seq.{length-take-le, drop-append-le, drop-cons, set-append_seam, take-append_seam}
 use Rattle.rules.specs.Basics.{Read, got, other, refuse, ◌>>=◌}
@@ -19,6 +22,7 @@ use Rattle.rules.specs.declared.Answer.{Answer}
 use Rattle.rules.specs.declared.Function.{Function}
 use Rattle.rules.specs.declared.Refusal.{Refusal}
 use Rattle.rules.specs.declared.Setting.{Setting}
+use Rattle.rules.specs.declared.Unanswered.{Unanswered}
 use Rattle.calendar.specs.Ranges.{InRange}
 use Rattle.moment.proofs.Branches.{never, either, by_test}
 use Rattle.timediff.proofs.Text.{bytes_range}
@@ -88,22 +92,22 @@ pub record Lacks (o : Outcome) (room n : ℕ) : Type 0 where
   pub count : n ≡ length bytes
   pub high : room < length bytes
 
-abbrev Tells : Outcome → ℕ → Answer → Type 0
-Tells o room (Answer.Text n) = Fits o room n
-Tells o room (Answer.NoRoom n) = Lacks o room n
-Tells o room (Answer.Integer z) = o ≡ integer z
-Tells o room (Answer.Real x) = o ≡ real x
-Tells o room (Answer.Refused r) = o ≡ refused r
+abbrev Tells : Outcome → ℕ → Result Answer Unanswered → Type 0
+Tells o room (Ok (Answer.Text n)) = Fits o room n
+Tells o room (Ok (Answer.Integer z)) = o ≡ integer z
+Tells o room (Ok (Answer.Real x)) = o ≡ real x
+Tells o room (Err (Unanswered.NoRoom n)) = Lacks o room n
+Tells o room (Err (Unanswered.Refused r)) = o ≡ refused r
 
 tells : (o : Outcome) (room : ℕ) → Tells o room (answered o room)
 unfolding answered
-tells (text t) room = by_test (Tells (text t) room) (leb (length t) room) (Answer.Text (length t)) (Answer.NoRoom (length t)) (λ h. record { bytes = t; is = refl; count = refl; low = leb-true (length t) room h }) (λ h. record { bytes = t; is = refl; count = refl; high = leb-false (length t) room h })
+tells (text t) room = by_test (Tells (text t) room) (leb (length t) room) (Ok (Answer.Text (length t))) (Err (Unanswered.NoRoom (length t))) (λ h. record { bytes = t; is = refl; count = refl; low = leb-true (length t) room h }) (λ h. record { bytes = t; is = refl; count = refl; high = leb-false (length t) room h })
 tells (integer z) room = refl
 tells (real x) room = refl
 tells (refused r) room = refl
 
-pub told : (o : Outcome) (room : ℕ) {r : Answer} (x : Answer) → r ≡ answered o room → r ≡ x → Tells o room x
-told o room x e f = subst (λ (y : Answer). Tells o room y) (sym e ∙ f) (tells o room)
+pub told : (o : Outcome) (room : ℕ) (x : Result Answer Unanswered) → answered o room ≡ x → Tells o room x
+told o room x e = subst (λ (y : Result Answer Unanswered). Tells o room y) e (tells o room)
 
 -- ---- a text and its zero byte
 alone_length : (t : List ℕ) → length (alone t) ≡ length t + 1
@@ -121,17 +125,17 @@ laid t s k h l =
     ∙ ap (λ (x : ℕ). alone t ++ drop x s) (sym n)
 
 -- o, asked for in all but one byte of `span`
-module _ (o : Outcome) (span : List ℕ) (k : ℕ) (r : Answer) (held : List ℕ) (s : Said o) (k-is : k ≡ length span - 1) (is : r ≡ answered o (length (take k span))) (holds : held ≡ after o (take k span)) where
+module _ (o : Outcome) (span : List ℕ) (k : ℕ) (r : Result Answer Unanswered) (held : List ℕ) (s : Said o) (k-is : k ≡ length span - 1) (is : r ≡ answered o (length (take k span))) (holds : held ≡ after o (take k span)) where
   part : length (take k span) ≡ k
   part = length-take-le k span (omega arith)
 
-  known : (x : Answer) → r ≡ x → Tells o k x
-  known x e = told o k x (is ∙ ap (answered o) part) e
+  known : (x : Result Answer Unanswered) → r ≡ x → Tells o k x
+  known x e = told o k x (sym (is ∙ ap (answered o) part) ∙ e)
 
   -- a text
-  module _ (n : ℕ) (e : r ≡ Answer.Text n) where
+  module _ (n : ℕ) (e : r ≡ Ok (Answer.Text n)) where
     fit : Fits o k n
-    fit = known (Answer.Text n) e
+    fit = known (Ok (Answer.Text n)) e
 
     size : (24 ≤ length fit.bytes) × (length fit.bytes ≤ 25)
     size = subst (λ (x : Outcome). Said x) fit.is s
@@ -152,65 +156,55 @@ module _ (o : Outcome) (span : List ℕ) (k : ℕ) (r : Answer) (held : List ℕ
     pub text_small : n ≤ 25
     text_small = omega (arith, fit.count, size.1)
 
-    pub text_put : (Answer.Text (n + 1) ≡ answered (ended o) (length span)) × (set (held ++ drop k span) n 0 ≡ after (ended o) span)
+    pub text_put : (answered (ended o) (length span) ≡ Ok (Answer.Text (n + 1))) × (set (held ++ drop k span) n 0 ≡ after (ended o) span)
     unfolding answered after
     text_put =
         let t = fit.bytes in
         let h : length (alone t) ≤ length span = omega (arith, alone_length t, fit.low, within_span) in
-        let c : n + 1 ≡ length (alone t) = omega (arith, alone_length t, fit.count) in
-        rw (fit.is, le-leb (length (alone t)) (length span) h) (ap Answer.Text c, ap (λ (x : List ℕ). set (x ++ drop k span) n 0) held_is ∙ ap (λ (m : ℕ). set ((t ++ drop (length t) (take k span)) ++ drop k span) m 0) fit.count ∙ laid t span k fit.low within_span)
+        let c : length (alone t) ≡ n + 1 = omega (arith, alone_length t, fit.count) in
+        rw (fit.is, le-leb (length (alone t)) (length span) h) (ap (λ (m : ℕ). Ok (Answer.Text m)) c, ap (λ (x : List ℕ). set (x ++ drop k span) n 0) held_is ∙ ap (λ (m : ℕ). set ((t ++ drop (length t) (take k span)) ++ drop k span) m 0) fit.count ∙ laid t span k fit.low within_span)
 
   -- a text that lacks room
-  module _ (n : ℕ) (e : r ≡ Answer.NoRoom n) where
+  module _ (n : ℕ) (e : r ≡ Err (Unanswered.NoRoom n)) where
     lack : Lacks o k n
-    lack = known (Answer.NoRoom n) e
+    lack = known (Err (Unanswered.NoRoom n)) e
 
     pub short_small : n ≤ 25
     short_small = let z : (24 ≤ length lack.bytes) × (length lack.bytes ≤ 25) = subst (λ (x : Outcome). Said x) lack.is s in omega (arith, lack.count, z.1)
 
-    pub short_put : (Answer.NoRoom (n + 1) ≡ answered (ended o) (length span)) × (held ++ drop k span ≡ after (ended o) span)
+    pub short_put : (answered (ended o) (length span) ≡ Err (Unanswered.NoRoom (n + 1))) × (held ++ drop k span ≡ after (ended o) span)
     unfolding answered after
     short_put =
         let t = lack.bytes in
         let h : length span < length (alone t) = omega (arith, alone_length t, lack.high) in
-        let c : n + 1 ≡ length (alone t) = omega (arith, alone_length t, lack.count) in
+        let c : length (alone t) ≡ n + 1 = omega (arith, alone_length t, lack.count) in
         let same : held ≡ take k span = holds ∙ ap (λ (x : Outcome). after x (take k span)) lack.is ∙ rw (part, lt-leb (length t) k lack.high) in
-        rw (lack.is, lt-leb (length (alone t)) (length span) h) (ap Answer.NoRoom c, ap (λ (x : List ℕ). x ++ drop k span) same ∙ take-append-drop k span)
+        rw (lack.is, lt-leb (length (alone t)) (length span) h) (ap (λ (m : ℕ). Err (Unanswered.NoRoom m)) c, ap (λ (x : List ℕ). x ++ drop k span) same ∙ take-append-drop k span)
 
-  pub refused_put : (x : Refusal) → r ≡ Answer.Refused x → (Answer.Refused x ≡ answered (ended o) (length span)) × (held ++ drop k span ≡ after (ended o) span)
+  pub refused_put : (x : Refusal) → r ≡ Err (Unanswered.Refused x) → (answered (ended o) (length span) ≡ Err (Unanswered.Refused x)) × (held ++ drop k span ≡ after (ended o) span)
   unfolding answered after
   refused_put x e =
-      let i : o ≡ refused x = known (Answer.Refused x) e in
+      let i : o ≡ refused x = known (Err (Unanswered.Refused x)) e in
       rw i (refl, ap (λ (x : List ℕ). x ++ drop k span) (holds ∙ ap (λ (y : Outcome). after y (take k span)) i) ∙ take-append-drop k span)
 
--- timediff gives no number
-abbrev pub NoNumber : Outcome → Type 0
-NoNumber (text t) = Unit {0}
-NoNumber (integer n) = ⊥
-NoNumber (real x) = ⊥
-NoNumber (refused x) = Unit {0}
+  -- timediff gives no number
+  pub no_integer : (z : ℤ) → r ≡ Ok (Answer.Integer z) → ⊥
+  no_integer z e = subst (λ (x : Outcome). Said x) (known (Ok (Answer.Integer z)) e) s
 
-no_number : (o : Outcome) → Said o → NoNumber o
-no_number (text t) h = tt
-no_number (integer n) h = h
-no_number (real x) h = h
-no_number (refused x) h = tt
+  pub no_real : (x : Float) → r ≡ Ok (Answer.Real x) → ⊥
+  no_real x e = subst (λ (y : Outcome). Said y) (known (Ok (Answer.Real x)) e) s
 
-pub said_text : (set : Setting) (a b : Value) → NoNumber (answer set (timediff a b))
-said_text set a b = no_number (answer set (timediff a b)) (said set a b)
+-- what is refused, or finds no room, is not called again
+stops : (again : List ℕ → Outcome) (o : Outcome) (span : ℕ) (out : List ℕ) (u : Unanswered) → Tells o span (Err u) → (Err u ≡ back_of again o span (length out)) × (out ≡ out_of again o span out)
+stops again o span out (Unanswered.NoRoom n) h = rw (h.is, lt-leb (length h.bytes) span h.high) (ap (λ (m : ℕ). Err (Unanswered.NoRoom m)) h.count, refl)
+stops again o span out (Unanswered.Refused x) h = rw h (refl, refl)
 
-pub no_integer : {A : Type 0} (o : Outcome) (room : ℕ) {r : Answer} → NoNumber o → r ≡ answered o room → {z : _} → r ≡ Answer.Integer z → A
-no_integer o room s e {z} f = absurd (subst (λ (x : Outcome). NoNumber x) (told o room (Answer.Integer z) e f) s)
-
-pub no_real : {A : Type 0} (o : Outcome) (room : ℕ) {r : Answer} → NoNumber o → r ≡ answered o room → {x : _} → r ≡ Answer.Real x → A
-no_real o room s e {x} f = absurd (subst (λ (x : Outcome). NoNumber x) (told o room (Answer.Real x) e f) s)
-
--- ---- the second call, with a span that answered r and then holds m
-module _ (set : Setting) (f : Value → List ℕ → Call) (a b : List ℕ) (span : List ℕ) (out : List ℕ) (r : Answer) (is : r ≡ answered (span_of set a b) (length span)) where
+-- ---- the second call, with a span that then holds `held`
+module _ (set : Setting) (f : Value → List ℕ → Call) (a b : List ℕ) (span : List ℕ) (out : List ℕ) where
   -- with room for the modifier
-  module _ (n : ℕ) (e : r ≡ Answer.Text n) (held : List ℕ) (holds : held ≡ after (span_of set a b) span) where
+  module _ (n : ℕ) (e : answered (span_of set a b) (length span) ≡ Ok (Answer.Text n)) (held : List ℕ) (holds : held ≡ after (span_of set a b) span) where
     span_fits : Fits (span_of set a b) (length span) n
-    span_fits = told (span_of set a b) (length span) (Answer.Text n) is e
+    span_fits = told (span_of set a b) (length span) (Ok (Answer.Text n)) e
 
     held_span : held ≡ span_fits.bytes ++ drop (length span_fits.bytes) span
     unfolding after
@@ -223,7 +217,7 @@ module _ (set : Setting) (f : Value → List ℕ → Call) (a b : List ℕ) (spa
     lent : take n held ≡ span_fits.bytes
     lent = ap (λ (m : ℕ). take m held) span_fits.count ∙ ap (take (length span_fits.bytes)) held_span ∙ take-append_seam span_fits.bytes (drop (length span_fits.bytes) span)
 
-    pub back_text : {x : Answer} → x ≡ answered (answer set (f (bytes b) (take n held))) (length out) → x ≡ back_with set f a b (length span) (length out)
+    pub back_text : {x : Result Answer Unanswered} → x ≡ answered (answer set (f (bytes b) (take n held))) (length out) → x ≡ back_with set f a b (length span) (length out)
     unfolding back_with
     back_text h = h ∙ ap (λ (m : List ℕ). answered (answer set (f (bytes b) m)) (length out)) lent ∙ rw (span_fits.is, le-leb (length span_fits.bytes) (length span) span_fits.low)
 
@@ -231,40 +225,15 @@ module _ (set : Setting) (f : Value → List ℕ → Call) (a b : List ℕ) (spa
     unfolding out_with
     out_text h = h ∙ ap (λ (m : List ℕ). after (answer set (f (bytes b) m)) out) lent ∙ rw (span_fits.is, le-leb (length span_fits.bytes) (length span) span_fits.low)
 
-  -- with less
-  module _ (n : ℕ) (e : r ≡ Answer.NoRoom n) where
-    span_lacks : Lacks (span_of set a b) (length span) n
-    span_lacks = told (span_of set a b) (length span) (Answer.NoRoom n) is e
-
-    pub back_short : Answer.NoRoom n ≡ back_with set f a b (length span) (length out)
+  -- with less, or after a refusal
+  module _ (u : Unanswered) (e : answered (span_of set a b) (length span) ≡ Err u) where
+    pub back_stops : Err u ≡ back_with set f a b (length span) (length out)
     unfolding back_with
-    back_short = rw (span_lacks.is, lt-leb (length span_lacks.bytes) (length span) span_lacks.high) (ap Answer.NoRoom span_lacks.count)
+    back_stops = (stops (λ m. answer set (f (bytes b) m)) (span_of set a b) (length span) out u (told (span_of set a b) (length span) (Err u) e)).0
 
-    pub out_short : out ≡ out_with set f a b (length span) out
+    pub out_stops : out ≡ out_with set f a b (length span) out
     unfolding out_with
-    out_short = rw (span_lacks.is, lt-leb (length span_lacks.bytes) (length span) span_lacks.high)
-
-  module _ (x : Refusal) (e : r ≡ Answer.Refused x) where
-    span_refused : span_of set a b ≡ refused x
-    span_refused = told (span_of set a b) (length span) (Answer.Refused x) is e
-
-    pub back_refused : Answer.Refused x ≡ back_with set f a b (length span) (length out)
-    unfolding back_with
-    back_refused = rw span_refused
-
-    pub out_refused : out ≡ out_with set f a b (length span) out
-    unfolding out_with
-    out_refused = rw span_refused
-
--- no number comes of a span
-pub said_span : (set : Setting) (a b : List ℕ) → NoNumber (span_of set a b)
-said_span set a b = go (answer set (timediff (bytes a) (bytes b))) (said set (bytes a) (bytes b))
-  where
-    go : (o : Outcome) → Said o → NoNumber (ended o)
-    go (text t) h = tt
-    go (integer n) h = h
-    go (real x) h = h
-    go (refused x) h = tt
+    out_stops = (stops (λ m. answer set (f (bytes b) m)) (span_of set a b) (length span) out u (told (span_of set a b) (length span) (Err u) e)).1
 
 -- ---- demand 3
 abbrev length_of : Outcome → ℕ
@@ -274,13 +243,13 @@ length_of (real x) = 0
 length_of (refused x) = 0
 
 -- a text that comes back from 24 bytes
-short : {o : Outcome} (t : List ℕ) → o ≡ text t → answered o 24 ≡ Answer.Text 24 → length t ≤ 24
+short : {o : Outcome} (t : List ℕ) → o ≡ text t → answered o 24 ≡ Ok (Answer.Text 24) → length t ≤ 24
 short {o} t e c =
-    let f : Fits o 24 24 = told o 24 (Answer.Text 24) refl c in
+    let f : Fits o 24 24 = told o 24 (Ok (Answer.Text 24)) c in
     subst (λ (x : Outcome). length_of x ≤ 24) (sym f.is ∙ e) f.low
 
 -- what both functions promise, by a call f that answers B with timediff's text as it answers A
-module _ (set : Setting) (f : Value → List ℕ → Call) (same : (a b : Instant) (k : Kept set a b) → answer set (f (value b) (alone (shift_by k.plus k.months k.rest))) ≡ answer set (f (value a) [])) (a b span out : List ℕ) {r : Answer} {new : List ℕ} where
+module _ (set : Setting) (f : Value → List ℕ → Call) (same : (a b : Instant) (k : Kept set a b) → answer set (f (value b) (alone (shift_by k.plus k.months k.rest))) ≡ answer set (f (value a) [])) (a b span out : List ℕ) {r : Result Answer Unanswered} {new : List ℕ} where
   as_of : r ≡ back_with set f a b (length span) (length out) → new ≡ out_with set f a b (length span) out → AsOfA set f a b (length span) out new r
   unfolding AsOfA back_with out_with
   as_of is holds A B ea eb ok room =
@@ -293,7 +262,7 @@ module _ (set : Setting) (f : Value → List ℕ → Call) (same : (a b : Instan
         holds ∙ ap (λ (o : Outcome). out_of (λ m. answer set (f (bytes b) m)) o (length span) out) e ∙ rw (le-leb (length (alone t)) (length span) h) (ap (λ (o : Outcome). after o out) back),
       )
 
-module _ (set : Setting) (a b span out : List ℕ) {r : Answer} {new : List ℕ} where
+module _ (set : Setting) (a b span out : List ℕ) {r : Result Answer Unanswered} {new : List ℕ} where
   pub datetime_as_of : r ≡ back_with set (call Function.Datetime) a b (length span) (length out) → new ≡ out_with set (call Function.Datetime) a b (length span) out → AsOfA set (call Function.Datetime) a b (length span) out new r
   datetime_as_of = as_of set (call Function.Datetime) (λ A B k. k.answers_as_A Function.Datetime) a b span out
 

@@ -2,38 +2,31 @@
 // (law_putback/specs/Demand.antt).
 #![tactic(auto)]
 
-ghost use Rattle.std.specs.Prelude.{◌≡◌, ◌-◌, length};
+ghost use Rattle.std.specs.Prelude.{◌≡◌, length, MatchResult, Ok, Err};
 ghost use Rattle.rules.specs.Calls.{call, strftime, answered, after};
+ghost use Rattle.rules.specs.declared.Answer.{Answer};
 ghost use Rattle.rules.specs.declared.Function.{Function};
 ghost use Rattle.reaches.specs.Back.{span_of, back_with, out_with, AsOfA};
 
-use rules::{Answer, Given, Setting};
+use rules::{Answer, Given, Setting, Unanswered};
 
-// The room of a buffer beside one byte at its end.
-fn all_but_one(room: usize) -> usize
-    ensures { result ≡ room - 1 }
-{
-    if room == 0 {
-        return 0;
-    }
-    room - 1
-}
-
-// timediff of a and b as a buffer of one modifier: its text and a zero byte. `span` needs room for both, and a refusal changes none of it.
-fn put_span(set: Setting, a: &[u8], b: &[u8], span: &mut [u8]) -> Answer
-    ensures value { result ≡ answered (span_of set a.now b.now) (length span.old) }
+// timediff of a and b as a buffer of one modifier: its text and a zero byte, and how many bytes these are. `span` needs room for both, and a
+// refusal changes none of it.
+fn put_span(set: Setting, a: &[u8], b: &[u8], span: &mut [u8]) -> Result<usize, Unanswered>
+    ensures value { MatchResult result (λ n. answered (span_of set a.now b.now) (length span.old) ≡ Ok (Answer.Text n)) (λ u. answered (span_of set a.now b.now) (length span.old) ≡ Err u) }
     ensures span_after { span.new ≡ after (span_of set a.now b.now) span.old }
 {
-    let room = all_but_one(span.len());
+    let room = span.len().saturating_sub(1);
     match datetime::timediff(set, Given::Bytes, a, Given::Bytes, b, &mut span[..room]) {
-        Answer::Text(n) => {
+        Ok(Answer::Text(n)) => {
             span[n] = 0;
-            Answer::Text(n + 1)
+            Ok(n + 1)
         }
-        Answer::NoRoom(n) => Answer::NoRoom(n + 1),
-        Answer::Refused(r) => Answer::Refused(r),
-        Answer::Integer(n) => Answer::Integer(n),
-        Answer::Real(x) => Answer::Real(x),
+        // timediff gives no number
+        Ok(Answer::Integer(_)) => unreachable!(),
+        Ok(Answer::Real(_)) => unreachable!(),
+        Err(Unanswered::NoRoom(n)) => Err(Unanswered::NoRoom(n + 1)),
+        Err(Unanswered::Refused(r)) => Err(Unanswered::Refused(r)),
     }
 }
 
@@ -41,19 +34,14 @@ fn put_span(set: Setting, a: &[u8], b: &[u8], span: &mut [u8]) -> Answer
 //
 // `span` is lent for the text and its zero byte: 25 bytes for years 0 to 9999. With less than they need, or where timediff refuses, that
 // answer comes back (7 with the length that `span` needs), and no byte of either buffer is changed.
-pub fn put_back(set: Setting, a: &[u8], b: &[u8], span: &mut [u8], out: &mut [u8]) -> Answer
+pub fn put_back(set: Setting, a: &[u8], b: &[u8], span: &mut [u8], out: &mut [u8]) -> Result<Answer, Unanswered>
     ensures value { result ≡ back_with set (call Function.Datetime) a.now b.now (length span.old) (length out.old) }
     ensures span_after { span.new ≡ after (span_of set a.now b.now) span.old }
     ensures out_after { out.new ≡ out_with set (call Function.Datetime) a.now b.now (length span.old) out.old }
     ensures as_of_a { AsOfA set (call Function.Datetime) a.now b.now (length span.old) out.old out.new result }
 {
-    match put_span(set, a, b, span) {
-        Answer::Text(n) => datetime::datetime(set, Given::Bytes, b, &span[..n], out),
-        Answer::NoRoom(n) => Answer::NoRoom(n),
-        Answer::Refused(r) => Answer::Refused(r),
-        Answer::Integer(n) => Answer::Integer(n),
-        Answer::Real(x) => Answer::Real(x),
-    }
+    let n = put_span(set, a, b, span)?;
+    datetime::datetime(set, Given::Bytes, b, &span[..n], out)
 }
 
 // And in any format: "to the millisecond" is `%Y-%m-%d %H:%M:%f`.
@@ -64,17 +52,12 @@ pub fn put_back_as(
     b: &[u8],
     span: &mut [u8],
     out: &mut [u8],
-) -> Answer
+) -> Result<Answer, Unanswered>
     ensures value { result ≡ back_with set (strftime format.now) a.now b.now (length span.old) (length out.old) }
     ensures span_after { span.new ≡ after (span_of set a.now b.now) span.old }
     ensures out_after { out.new ≡ out_with set (strftime format.now) a.now b.now (length span.old) out.old }
     ensures as_of_a { AsOfA set (strftime format.now) a.now b.now (length span.old) out.old out.new result }
 {
-    match put_span(set, a, b, span) {
-        Answer::Text(n) => datetime::strftime(set, format, Given::Bytes, b, &span[..n], out),
-        Answer::NoRoom(n) => Answer::NoRoom(n),
-        Answer::Refused(r) => Answer::Refused(r),
-        Answer::Integer(n) => Answer::Integer(n),
-        Answer::Real(x) => Answer::Real(x),
-    }
+    let n = put_span(set, a, b, span)?;
+    datetime::strftime(set, format, Given::Bytes, b, &span[..n], out)
 }

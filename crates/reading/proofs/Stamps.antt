@@ -4,14 +4,14 @@ use mathlib.Core.Bool.{Bool, true, false, true≢false}
 use mathlib.Core.Path.{◌≡◌, refl, sym, ap, ◌∙◌}
 use mathlib.Core.List.{List, [], ◌∷◌, ◌++◌, append_assoc}
 use native.Mathlib.Omega.{arith}
-use borrow.Author.Tests.{leb-true, ne_eqb}
+use borrow.Author.Tests.{leb-true, eq-eqb, ne_eqb}
 use lib.Dec.{eqb, leb}
 use lib.Ieee.{Float}
 use lib.ListN.{length, length-append, length-map}
 use Rattle.rules.specs.Basics.{is_digit, got, every, skip}
 use Rattle.rules.specs.Calendar.{year, month_length, midnight}
 use Rattle.rules.specs.Floats.{number, ◌⊕◌}
-use Rattle.rules.specs.Moments.{Moment, no_zone, set_ms, counted, count_ms, time_ms, past_end}
+use Rattle.rules.specs.Moments.{Moment, no_zone, set_ms, counted, count_ms, sum_of, with_time, time_ms, past_end}
 use Rattle.rules.specs.Reading.{space, fraction_of, fraction, seconds_in, seconds, zone_in, time, timed, time_after, settled, text_value}
 use Rattle.rules.specs.Writing.{places}
 use Rattle.rules.specs.declared.Time.{Time}
@@ -20,7 +20,7 @@ use Rattle.text.proofs.Bytes.{digit_bounds, not_space}
 use Rattle.calendar.proofs.Counting.{month_day}
 use Rattle.real.proofs.Run.{Digits}
 use Rattle.real.proofs.Seconds.{fraction_none, exact_ms}
-use Rattle.moment.proofs.Steps.{in_time, summed, zoneless, count_dated}
+use Rattle.moment.proofs.Steps.{in_time, summed}
 use Rattle.reading.specs.Readers.{year_month_day}
 use Rattle.reading.specs.Written.{Stamp, pointed, written, Full, instant_of, fields_of}
 use Rattle.reading.proofs.Places.{both, Stops, digits_places, skip_run, skip_all, run_digits}
@@ -29,6 +29,15 @@ use Rattle.reading.proofs.Fractions.{no_point}
 use Rattle.reading.proofs.Times.{time_of_lem}
 use Rattle.reading.proofs.Dates.{time_form_lem, time_follows, ymd, date_and_time, no_minus}
 use Rattle.reading.proofs.Values.{is_date}
+
+-- ---- milliseconds of a date and a time
+zoneless : (p : Moment) → p.timed ≡ true → p.zone ≡ no_zone → with_time p ≡ set_ms p (p.ms + time_ms p.hour p.minute p.second)
+unfolding with_time
+zoneless p h z = rw (h, eq-eqb p.zone no_zone z)
+
+count_dated : (p : Moment) → p.counted ≡ false → p.dated ≡ true → count_ms p ≡ sum_of p p.year p.month p.day
+unfolding count_ms
+count_dated p h k = rw (h, k)
 
 -- ---- the byte that a number begins with
 first_digit : (x : ℕ) → x ≤ 9 → (gap (48 + x) ≡ false) × (eqb 45 (48 + x) ≡ false)

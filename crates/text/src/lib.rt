@@ -88,22 +88,22 @@ pub fn byte(s: &[u8], b: u8) -> Option<&[u8]>
     if *x == b { Some(rest) } else { None }
 }
 
-// N digits whose number is lo to hi, "always full digits".
+// N digits whose number is lo to hi, "always full digits". It is inlined at each number of a date and a time: as a call it costs more than
+// the digits (docs/SPEED.md).
+#[inline(always)]
 pub fn digits<const N: usize>(s: &[u8], lo: u32, hi: u32) -> Option<(u32, &[u8])>
     requires { N ≤ 9 }
     ensures value { rule.read_some (λ r. (r.0, r.1.now)) result ≡ rule.digits N lo hi s.now }
     ensures limits { IfSome result (λ r. (lo ≤ r.0) × (r.0 ≤ hi)) }
     ensures shorter { IfSome result (λ r. length r.1.now ≤ length s.now) }
 {
+    let (front, rest) = s.split_first_chunk::<N>()?;
     let mut v: u32 = 0;
-    let mut rest = s;
-    for _ in 0..N {
-        let (b, tail) = rest.split_first()?;
+    for b in front {
         if !is_digit(*b) {
             return None;
         }
         v = v * 10 + (*b - b'0') as u32;
-        rest = tail;
     }
     (lo..=hi).contains(&v).then_some((v, rest))
 }

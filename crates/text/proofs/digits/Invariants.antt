@@ -1,8 +1,9 @@
-use Prim.Native.Nat.{◌-◌, ◌≤◌, ◌^◌, ◌<◌}
-use lib.ListN.{length}
+use Prim.Native.Nat.{◌-◌, ◌^◌, ◌<◌}
+use lib.ListN.{drop}
 use mathlib.Core.Path.{◌≡◌}
+use mathlib.Core.List.{◌++◌}
 use Rattle.rules.specs.Basics.{digits_on}
 use Rattle.text.proofs.digits.Given as goal
 
-abbrev pub invariant-loop : goal.invariant-loop
-invariant-loop g l = record { left : digits_on g.row.N 0 l.s ≡ digits_on (g.row.N - l.counter) l.v l.rest; small : l.v < 10 ^ l.counter; shorter : length l.rest ≤ length l.s }
+abbrev pub invariant-loop-b : goal.invariant-loop-b
+invariant-loop-b g l = record { left : digits_on g.row.N 0 l.s ≡ digits_on (g.row.N - l.b-index) l.v (drop l.b-index l.front ++ l.rest); small : l.v < 10 ^ l.b-index }
