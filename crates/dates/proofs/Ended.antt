@@ -1,130 +1,124 @@
 -- The answers of the lines that end in a block, one line after another. Assumes nothing.
-use Prim.Native.Nat.{ℕ, suc, ◌+◌, ◌-◌, ◌≤◌, ◌<◌}
-use Rattle.std.specs.Prelude.{if◌then◌else◌}
-use mathlib.Core.Bool.{Bool, true, false, not}
-use mathlib.Core.Path.{◌≡◌, refl, sym, ap, ◌∙◌}
-use mathlib.Core.List.{List, [], ◌∷◌, ◌++◌, append_assoc, append-nil}
-use native.Mathlib.Numerals.{add-one}
-use native.Mathlib.Omega.{arith}
-use lib.Dec.{ltb}
-use lib.ListN.{length, take, drop, drop_of_length-le, length-append, take-append-drop}
-use lib.Seq.{drop-cons}
-use borrow.Author.Tests.{ltb-false}
-use Rattle.rules.specs.Basics.{parts, on_first, front, skip}
+use Rattle.std.proofs.Common.{◌≡◌, ℕ, suc, ◌+◌, ◌-◌, ◌<◌, Bool, true, false, List, [], ◌∷◌, ◌++◌, length, refl, sym, ap, ◌∙◌, append_assoc, arith, length-append}
+use Rattle.std.specs.Prelude.{Some, None, if◌then◌else◌}
+use Rattle.rules.specs.Basics.{parts, on_first}
 use Rattle.rules.specs.Program.{line}
 use Rattle.rules.specs.declared.Setting.{Setting}
-use Rattle.text.specs.Places.{part, Passed}
-use Rattle.text.proofs.Runs.{take_front, drop_front}
+use Rattle.text.specs.Places.{IsCut}
+use Rattle.text.proofs.Cuts.{parts_cut}
 use Rattle.digits.specs.Writers.{Laid}
 use Rattle.digits.proofs.Buffer.{laid_then, laid_length}
-use Rattle.dates.specs.Answers.{is_newline, in_line, line_text, ended, ended_from, last_of, last_from, last_after, Answered, Answers}
-use Rattle.dates.specs.declared.Place.{Place}
+use Rattle.dates.specs.Answers.{is_newline, line_text, ended, ended_in, last_of, last_in, onto, last_after, Answered, Answers}
+use Rattle.dates.specs.Buffers.{HasRoom}
 
--- ---- the first line is up to the next newline, and the others are those after it
-abbrev lines_after : List ℕ → List (List ℕ)
-lines_after [] = []
-lines_after (b ∷ s) = parts is_newline s
+-- ---- there is a first line
+data Begun (l : List (List ℕ)) : Type 0 where
+  begun : (s : List ℕ) (ss : List (List ℕ)) → l ≡ s ∷ ss → Begun l
 
-lines_split : (l : List ℕ) → parts is_newline l ≡ front in_line l ∷ lines_after (skip in_line l)
-unfolding parts front skip
-lines_split [] = refl
-lines_split (b ∷ l) = go (is_newline b) (lines_split l)
+lines_begin : (s : List ℕ) → Begun (parts is_newline s)
+unfolding parts
+lines_begin [] = begun [] [] refl
+lines_begin (b ∷ s) = go (is_newline b) (lines_begin s)
   where
-    go : (t : Bool) → parts is_newline l ≡ front in_line l ∷ lines_after (skip in_line l) → (if t then [] ∷ parts is_newline l else on_first b (parts is_newline l)) ≡ (if not t then b ∷ front in_line l else []) ∷ lines_after (if not t then skip in_line l else b ∷ l)
-    go true e = refl
-    go false e = rw e
+    go : (t : Bool) → Begun (parts is_newline s) → Begun (if t then [] ∷ parts is_newline s else on_first b (parts is_newline s))
+    go true e = begun [] (parts is_newline s) refl
+    go false (begun x xs e) = begun (b ∷ x) xs (rw e refl)
 
-module _ (block : List ℕ) (at end : ℕ) (p : Passed in_line block at end) where
-  lines_at : parts is_newline (drop at block) ≡ part block at end ∷ lines_after (drop end block)
-  lines_at = lines_split (drop at block) ∙ rw (← p.bytes, ← p.rest)
-
-  -- no line ends in what is left
-  pub ended_none : (set : Setting) → length block ≤ end → ended_from set block at ≡ []
+-- the first of a block, whose first line began earlier with k
+module _ {s front : List ℕ} (p : IsCut 10 s front None) where
+  -- no line ends
+  pub ended_none : (set : Setting) → ended_in set s ≡ []
   unfolding ended
-  ended_none set h = rw (lines_at, drop_of_length-le block h)
+  ended_none set = ap (ended set) (parts_cut 10 s front None p)
 
-  -- a line ends there
-  pub ended_line : (set : Setting) → end < length block → ended_from set block at ≡ line_text set (part block at end) ++ ended_from set block (end + 1)
+  pub last_goes_on : (k : List ℕ) → k ++ front ≡ last_after k s
+  unfolding last_of
+  last_goes_on k = sym (ap (λ (l : List (List ℕ)). last_of (onto k l)) (parts_cut 10 s front None p))
+
+module _ {s front rest : List ℕ} (p : IsCut 10 s front (Some rest)) where
+  -- a line ends
+  pub ended_line : (set : Setting) → ended_in set s ≡ line_text set front ++ ended_in set rest
   unfolding ended
-  ended_line set h = rw (lines_at, drop-cons block end 0 h, add-one, lines_split (drop (suc end) block))
+  ended_line set = ap (ended set) (parts_cut 10 s front (Some rest) p) ∙ go (lines_begin rest)
+    where
+      go : Begun (parts is_newline rest) → ended set (front ∷ parts is_newline rest) ≡ line_text set front ++ ended_in set rest
+      go (begun x xs e) = rw e refl
 
   -- and the last line is as it was
-  pub last_line : end < length block → last_from block at ≡ last_from block (end + 1)
+  pub last_line : (k : List ℕ) → last_in rest ≡ last_after k s
   unfolding last_of
-  last_line h = rw (lines_at, drop-cons block end 0 h, add-one, lines_split (drop (suc end) block))
+  last_line k = sym (ap (λ (l : List (List ℕ)). last_of (onto k l)) (parts_cut 10 s front (Some rest) p) ∙ go (lines_begin rest))
+    where
+      go : Begun (parts is_newline rest) → last_of ((k ++ front) ∷ parts is_newline rest) ≡ last_in rest
+      go (begun x xs e) = rw e refl
 
--- ---- the last line of a block whose first line began earlier
-pub last_begins : (block : List ℕ) → last_from block 0 ≡ last_after [] block
-last_begins block = rw (lines_split block)
-
-module _ (k block : List ℕ) (end : ℕ) (p : Passed in_line block 0 end) where
-  lines_are : parts is_newline block ≡ part block 0 end ∷ lines_after (drop end block)
-  lines_are = lines_at block 0 end p
-
-  pub last_goes_on : length block ≤ end → k ++ take end block ≡ last_after k block
-  unfolding last_of
-  last_goes_on h = let n : end - 0 ≡ end = omega arith in rw (lines_are, drop_of_length-le block h, n)
-
-  pub last_after_lem : end < length block → last_from block (end + 1) ≡ last_after k block
-  unfolding last_of
-  last_after_lem h = rw (lines_are, drop-cons block end 0 h, add-one, lines_split (drop (suc end) block))
-
-pub passed_on : {block : List ℕ} {at end : ℕ} → Passed in_line block at end → at ≤ end
-passed_on q = rw q.place (omega arith)
+pub last_begins : (s : List ℕ) → last_in s ≡ last_after [] s
+last_begins s = go (lines_begin s)
+  where
+    go : Begun (parts is_newline s) → last_in s ≡ last_after [] s
+    go (begun x xs e) = rw e refl
 
 -- ---- the lines that are answered
-module _ {set : Setting} {block : List ℕ} {at used : ℕ} where
-  pub answers_start : (old : List ℕ) → at ≤ length block → used ≤ length old → Answered set block at used old old (record { at = at; used = used })
-  answers_start old h k = record {
+module _ {set : Setting} {block old : List ℕ} {used : ℕ} where
+  pub answers_start : Answered set block old used old used block
+  answers_start = record {
+    past = [];
     done = [];
+    whole = refl;
     laid = record { place = omega arith; bytes = refl };
     left = refl;
     last = refl;
-    on = omega arith;
-    inside = h;
-    used_inside = k;
   }
 
-  pub answers_on : {old mid new : List ℕ} {p : Place} {end next : ℕ} → Answered set block at used old mid p → Passed in_line block p.at end → end < length block → Laid mid p.used (line_text set (part block p.at end)) new next → next ≤ length new → Answered set block at used old new (record { at = end + 1; used = next })
-  answers_on {p = p} {end = end} a q h l k = record {
-    done = a.done ++ line_text set (part block p.at end);
+  pub answers_on : {mid new rest front after : List ℕ} {at next : ℕ} → Answered set block old used mid at rest → IsCut 10 rest front (Some after)
+      → Laid mid at (line_text set front) new next → Answered set block old used new next after
+  answers_on {rest = rest} {front = front} {after = after} a p l = record {
+    past = a.past ++ (front ++ (10 ∷ []));
+    done = a.done ++ line_text set front;
+    whole = a.whole ∙ ap (λ (x : List ℕ). a.past ++ x) p.whole ∙ sym (simp append_assoc);
     laid = laid_then a.laid l;
-    left = a.left ∙ ap (λ (x : List ℕ). a.done ++ x) (ended_line block p.at end q set h) ∙ sym (append_assoc a.done (line_text set (part block p.at end)) (ended_from set block (end + 1)));
-    last = a.last ∙ last_line block p.at end q h;
-    on = omega (arith, a.on, passed_on q);
-    inside = omega arith;
-    used_inside = k;
+    left = a.left ∙ ap (λ (x : List ℕ). a.done ++ x) (ended_line p set) ∙ sym (append_assoc a.done (line_text set front) (ended_in set after));
+    last = a.last ∙ last_begins rest ∙ sym (last_line p []);
   }
 
-  -- why they stop: no line ends in what is left, or another answer has no room
-  pub answers_all : {old new : List ℕ} {p : Place} {end : ℕ} → Answered set block at used old new p → Passed in_line block p.at end → length block ≤ end → Answers set block at used old new p
-  answers_all {p = p} {end = end} a q h = record { answered = a; stops = λ room. ended_none block p.at end q set h }
-
-  pub answers_full : {old new : List ℕ} {p : Place} {t : Bool} → Answered set block at used old new p → t ≡ ltb 16384 (length new - p.used) → t ≡ false → Answers set block at used old new p
-  answers_full {new = new} {p = p} a e f = record { answered = a; stops = λ room. absurd (omega (arith, ltb-false 16384 (length new - p.used) (sym e ∙ f))) }
-
-  -- where they stop at once though there is room, no line ends from there on
-  pub answers_none : {old new : List ℕ} {p : Place} → Answers set block at used old new p → p.at ≡ at → 16384 < length old - used → ended_from set block at ≡ []
-  answers_none {p = p} a e room =
-      let d = a.answered.done in
-      let n : length (ended_from set block at) ≡ length d + length (ended_from set block p.at) = ap length a.answered.left ∙ length-append d (ended_from set block p.at) in
-      let m : ended_from set block p.at ≡ ended_from set block at = ap (λ (i : ℕ). ended_from set block i) e in
-      sym m ∙ a.stops (omega (arith, n, ap length m, laid_length a.answered.laid, a.answered.laid.place))
+  -- why they stop: no line ends in what is left
+  pub answers_all : {new rest front : List ℕ} {next : ℕ} → Answered set block old used new next rest → IsCut 10 rest front None
+      → Answers set block old used new next rest
+  answers_all a p = record { answered = a; stops = λ room. ended_none p set }
 
 -- ---- where no line ends, all that is left is the last line
-not_empty : (s t : List ℕ) (b : ℕ) → (s ++ b ∷ []) ++ t ≡ [] → ⊥
-not_empty s t b e = omega (arith, ap length e, length-append (s ++ b ∷ []) t, length-append s (b ∷ []))
-
-answer_not_empty : (set : Setting) (s t : List ℕ) → line_text set s ++ t ≡ [] → ⊥
-answer_not_empty set s t e = not_empty (line set s) t 10 e
-
-front_all : (l : List ℕ) → skip in_line l ≡ [] → front in_line l ≡ l
-front_all l e = sym (append-nil (front in_line l)) ∙ ap (λ (x : List ℕ). front in_line l ++ x) (sym (drop_front in_line l ∙ e)) ∙ ap (λ (x : List ℕ). x ++ drop (length (front in_line l)) l) (sym (take_front in_line l)) ∙ take-append-drop (length (front in_line l)) l
-
-pub last_all : (set : Setting) (l : List ℕ) → ended set (parts is_newline l) ≡ [] → last_of (parts is_newline l) ≡ l
-unfolding ended last_of
-last_all set l = rw (lines_split l) (go (skip in_line l) refl)
+alone : (l s : List ℕ) → parts is_newline l ≡ s ∷ [] → l ≡ s
+unfolding parts
+alone [] s e = cc
+alone (b ∷ l) s e = go (is_newline b) (lines_begin l) (alone l) e
   where
-    go : (k : List ℕ) → skip in_line l ≡ k → ended set (front in_line l ∷ lines_after k) ≡ [] → last_of (front in_line l ∷ lines_after k) ≡ l
-    go [] e h = front_all l e
-    go (b ∷ s) e h = let z = rw (lines_split s) at h in absurd (answer_not_empty set (front in_line l) (ended set (front in_line s ∷ lines_after (skip in_line s))) z)
+    go : (t : Bool) → Begun (parts is_newline l) → ((x : List ℕ) → parts is_newline l ≡ x ∷ [] → l ≡ x) → (if t then [] ∷ parts is_newline l else on_first b (parts is_newline l)) ≡ s ∷ [] → b ∷ l ≡ s
+    go true (begun x xs is) same e = absurd (cc)
+    go false (begun x xs is) same e =
+        let h : (b ∷ x) ∷ xs ≡ s ∷ [] = rw is at e in
+        let t : l ≡ x = same x (cc (is, h)) in
+        cc (h, t)
+
+not_empty : (set : Setting) (s t : List ℕ) → line_text set s ++ t ≡ [] → ⊥
+not_empty set s t e = omega (arith, ap length e, length-append (line_text set s) t, length-append (line set s) (10 ∷ []))
+
+pub last_all : (set : Setting) (l : List ℕ) → ended_in set l ≡ [] → last_in l ≡ l
+unfolding ended last_of
+last_all set l = go (parts is_newline l) refl (lines_begin l)
+  where
+    go : (ss : List (List ℕ)) → parts is_newline l ≡ ss → Begun (parts is_newline l) → ended set ss ≡ [] → last_of ss ≡ l
+    go [] is (begun x xs e) h = absurd (cc)
+    go (s ∷ []) is b h = sym (alone l s is)
+    go (s ∷ t ∷ ss) is b h = absurd (not_empty set s (ended set (t ∷ ss)) h)
+
+-- where they stop at once though there is room, no line ends
+nothing_past : (s t : List ℕ) → length t ≡ length (s ++ t) → s ++ t ≡ t
+nothing_past [] t e = refl
+nothing_past (b ∷ s) t e = absurd (omega (arith, length-append s t))
+
+pub answers_none : {set : Setting} {block old new rest : List ℕ} {used next : ℕ} → Answers set block old used new next rest → length rest ≡ length block → HasRoom used → last_in block ≡ block
+answers_none {set = set} {block = block} {rest = rest} {used = used} {next = next} a e room =
+    let d = a.answered.done in
+    let same : block ≡ rest = a.answered.whole ∙ nothing_past a.answered.past rest (e ∙ ap length a.answered.whole) in
+    let n : length d ≡ 0 = omega (arith, ap length a.answered.left, ap (λ (s : List ℕ). length (ended_in set s)) same, length-append d (ended_in set rest)) in
+    last_all set block (ap (ended_in set) same ∙ a.stops (omega (arith, a.answered.laid.place)))

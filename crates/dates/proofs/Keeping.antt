@@ -1,22 +1,23 @@
 -- What is kept of a line that goes on in the next block. Assumes nothing.
-use Prim.Native.Nat.{ℕ, ◌+◌}
-use mathlib.Core.Path.{◌≡◌, sym, ap, ◌∙◌}
-use mathlib.Core.List.{List, [], ◌++◌}
-use lib.ListN.{length, set, take, drop}
-use Rattle.rules.specs.declared.Setting.{Setting}
-use Rattle.text.specs.Places.{part}
-use Rattle.text.proofs.Runs.{part_all}
-use Rattle.dates.specs.Answers.{ended_from, last_from}
-use Rattle.dates.specs.Buffers.{Keeps}
-use Rattle.dates.proofs.Ended.{last_all}
+use Rattle.std.proofs.Common.{◌≡◌, ℕ, ◌+◌, ◌≤◌, List, ◌++◌, length, take, drop, sym, ap, ◌∙◌, subst, arith, length-append}
+use Rattle.std.proofs.Math.Seq.{take-append_seam, take-append-add}
+use Rattle.std.proofs.lemmas.List.{length-take-le}
+use Rattle.std.proofs.lemmas.List.Edits.{sets-eq}
+use Rattle.digits.specs.Writers.{Laid}
+use Rattle.digits.proofs.Buffer.{laid_length}
 
--- ---- byte by byte: so many bytes of the part are kept
-abbrev pub KeptTo : List ℕ → ℕ → List ℕ → List ℕ → ℕ → Type 0
-KeptTo old have more new i = take (have + i) new ≡ take have old ++ take i more
-
--- ---- a line that begins in a block, and ends in none of its bytes
-pub kept_last : (set : Setting) (block old new : List ℕ) (from at n : ℕ) → Keeps old 0 (part block at (length block)) new n → last_from block from ≡ last_from block at → ended_from set block at ≡ [] → take n new ≡ take (length new) (last_from block from)
-kept_last set block old new from at n k e h = k.bytes ∙ ap (λ (s : List ℕ). take (length new) s) (part_all block at ∙ sym (e ∙ last_all set (drop at block) h))
-
-pub kept_same : (n : ℕ) {x s t : List ℕ} → x ≡ take n s → s ≡ t → x ≡ take n t
-kept_same n e f = e ∙ ap (λ (y : List ℕ). take n y) f
+-- as much of the part is laid as has room, which is for k bytes more
+pub kept : (old part : List ℕ) (used k : ℕ) {new t : List ℕ} {next : ℕ} → length old ≡ used + k → length t ≤ k → t ≡ take k part → Laid old used t new next
+    → take next new ≡ take (length new) (take used old ++ part)
+kept old part used k {new} {t} {next} long few same laid =
+    let front : length (take used old) ≡ used = length-take-le used old (omega arith) in
+    let fits : used + length t ≤ length old = omega arith in
+    let rest = drop (used + length t) old in
+    let size : length (take used old ++ t) ≡ used + length t = length-append (take used old) t ∙ ap (λ n. n + length t) front in
+    let to : take next new ≡ take used old ++ t =
+      rw (laid.place, laid.bytes, sets-eq t old used fits)
+      (subst (λ n. take n ((take used old ++ t) ++ rest) ≡ take used old ++ t) size (take-append_seam (take used old ++ t) rest)) in
+    let from : take (length new) (take used old ++ part) ≡ take used old ++ take k part =
+      rw (laid_length laid, long)
+      (subst (λ n. take (n + k) (take used old ++ part) ≡ take used old ++ take k part) front (take-append-add (take used old) part k)) in
+    to ∙ ap (λ s. take used old ++ s) same ∙ sym from

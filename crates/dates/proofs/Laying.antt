@@ -1,7 +1,7 @@
 -- Texts laid in the output's buffer. Assumes nothing.
 use Prim.Native.Nat.{ℕ, ◌+◌, ◌-◌, ◌≤◌, ◌<◌}
 use mathlib.Core.Bool.{true}
-use mathlib.Core.Path.{◌≡◌, sym, ap, ◌∙◌}
+use mathlib.Core.Path.{◌≡◌, refl, sym, ap, ◌∙◌}
 use mathlib.Core.List.{List, [], ◌∷◌, ◌++◌, append_assoc}
 use native.Mathlib.Omega.{arith}
 use lib.Dec.{leb}
@@ -11,12 +11,18 @@ use borrow.Rule.Slice.PartMut.{mid_of, put_mid}
 use borrow.Author.Tests.{le-leb}
 use Rattle.rules.specs.Calls.{text, answered, after}
 use Rattle.rules.specs.Program.{line}
+use Rattle.std.specs.Prelude.{Result}
 use Rattle.rules.specs.declared.Answer.{Answer}
+use Rattle.rules.specs.declared.Unanswered.{Unanswered}
 use Rattle.rules.specs.declared.Setting.{Setting}
 use Rattle.digits.specs.Writers.{Laid}
 use Rattle.digits.proofs.Buffer.{laid_then, laid_length}
 use Rattle.lines.proofs.Short.{line_short}
 use Rattle.dates.specs.Answers.{text_length, line_text}
+
+-- ---- a text that fills a part of the buffer that was lent, and is back
+pub whole_laid : (out s t : List ℕ) (used k : ℕ) → k ≡ length t → s ≡ t → used + length t ≤ length out → put_mid used k out s ≡ sets out used t
+whole_laid out s t used k n e fits = rw (e, n, drop-drop (length t) used out, sets-eq t out used fits, append_assoc) refl
 
 -- ---- a text at the front of a part of the buffer that was lent, and is back
 mid_laid : (out t : List ℕ) (used k : ℕ) → length t ≤ k → used + k ≤ length out → put_mid used k out (t ++ drop (length t) (mid_of used k out)) ≡ sets out used t
@@ -26,33 +32,20 @@ mid_laid out t used k h f =
     let rest : drop (length t) (take k l) ++ drop k l ≡ drop (used + length t) out = sym (drop-append-le (length t) (take k l) (drop k l) few) ∙ ap (λ (x : List ℕ). drop (length t) x) (take-append-drop k l) ∙ drop-drop (length t) used out in
     ap (λ (x : List ℕ). take used out ++ x) (append_assoc t (drop (length t) (take k l)) (drop k l) ∙ ap (λ (x : List ℕ). t ++ x) rest) ∙ sym (append_assoc (take used out) t (drop (used + length t) out)) ∙ sym (sets-eq t out used (omega arith))
 
--- ---- a line's answer, which finds room, and its newline
-module _ (set : Setting) (s out ys : List ℕ) (used k : ℕ) (e : k ≡ 16384) (room : 16384 < length out - used) {a : Answer} {n : ℕ} (p : a ≡ answered (text (line set s)) (length (mid_of used k out))) (q : ys ≡ after (text (line set s)) (mid_of used k out)) (l : n ≡ text_length a) where
-  mid_length : length (mid_of used k out) ≡ 16384
-  mid_length = length-take-le k (drop used out) (rw (length-drop used out) (omega arith)) ∙ e
+pub part_laid : {out t ys : List ℕ} {used k n : ℕ} → n ≡ length t → length t ≤ k → used + k ≤ length out → ys ≡ t ++ drop n (mid_of used k out)
+    → Laid out used t (put_mid used k out ys) (used + n)
+part_laid {out} {t} {ys} {used} {k} {n} is few fits e =
+    record { place = ap (λ (m : ℕ). used + m) is; bytes = rw (e, is) (mid_laid out t used k few fits) }
 
-  fits : leb (length (line set s)) (length (mid_of used k out)) ≡ true
-  fits = rw mid_length (le-leb (length (line set s)) 16384 (line_short set s))
+-- ---- a line's answer, which finds room
+module _ (set : Setting) (s out : List ℕ) (room : 16384 ≤ length out) where
+  fits : leb (length (line set s)) (length out) ≡ true
+  fits = let few = line_short set s in le-leb (length (line set s)) (length out) (omega arith)
 
-  told : text_length (answered (text (line set s)) (length (mid_of used k out))) ≡ length (line set s)
+  pub answer_length : {a : Result Answer Unanswered} {n : ℕ} → a ≡ answered (text (line set s)) (length out) → n ≡ text_length a → n ≡ length (line set s)
   unfolding answered
-  told = rw fits
+  answer_length p l = rw (l, p, fits) refl
 
-  line_length : n ≡ length (line set s)
-  line_length = l ∙ ap text_length p ∙ told
-
-  pub line_room : n ≤ 16384
-  line_room = rw line_length (line_short set s)
-
-  pub line_laid : {new : List ℕ} {r : ℕ} → Laid (put_mid used k out ys) (used + n) (10 ∷ []) new r → Laid out used (line_text set s) new r × (r ≤ length new)
+  pub answer_after : after (text (line set s)) out ≡ line set s ++ drop (length (line set s)) out
   unfolding after
-  line_laid x =
-      let t = line set s in
-      let y : ys ≡ t ++ drop (length t) (mid_of used k out) = q ∙ rw fits in
-      let few = line_short set s in
-      let first : Laid out used t (put_mid used k out ys) (used + n) = record {
-        place = ap (λ (m : ℕ). used + m) line_length;
-        bytes = ap (put_mid used k out) y ∙ mid_laid out t used k (omega arith) (omega arith);
-      } in
-      let both : Laid out used (t ++ (10 ∷ [])) _ _ = laid_then first x in
-      (both, omega (arith, length-append t (10 ∷ []), both.place, laid_length both))
+  answer_after = rw fits refl

@@ -1,28 +1,18 @@
--- What is kept and what is to be written lie within their buffers, and an answer with its newline has room in the empty one.
-use Rattle.std.specs.Prelude.{ℕ, ◌-◌, ◌≤◌, ◌<◌, false, ◌≡◌, List, ◌++◌, length, take}
-use Rattle.dates.specs.declared.Run.{Run}
+-- What is kept of a line and what is to be written, as they stand in their buffers.
+use Rattle.std.specs.Prelude.{ℕ, ◌-◌, ◌<◌, ◌≡◌, List, ◌++◌, length, take}
 
-pub record Within (t : Run) (kept out : List ℕ) : Type 0 where
-  pub have : t.have ≤ length kept
-  pub used : t.used ≤ length out
-  pub wide : 16384 < length out
+-- an answer and its newline have room after `used` bytes of the output's buffer
+abbrev pub HasRoom : ℕ → Type 0
+HasRoom used = 16384 < 65536 - used
 
--- the same place in the input
-pub record Same (t r : Run) : Type 0 where
-  pub set : r.set ≡ t.set
-  pub begun : r.begun ≡ t.begun
-  pub have : r.have ≡ t.have
+-- the `have` bytes that are kept of a line
+abbrev pub kept_line : List ℕ → ℕ → List ℕ
+kept_line kept have = take have kept
 
--- an answer and its newline have room
-pub record HasRoom (t : Run) (out : List ℕ) : Type 0 where
-  pub used : t.used ≤ length out
-  pub room : 16384 < length out - t.used
+-- what is kept is the line s, as far as there is room
+abbrev pub Holds : List ℕ → ℕ → List ℕ → Type 0
+Holds kept have s = kept_line kept have ≡ take (length kept) s
 
--- r bytes are kept: those that were, `have` of them, and after them the part, as far as there is room
-pub record Keeps (old : List ℕ) (have : ℕ) (part new : List ℕ) (r : ℕ) : Type 0 where
-  pub inside : r ≤ length new
-  pub bytes : take r new ≡ take (length new) (take have old ++ part)
-
--- unless the run is over, what is kept is the line s, as far as there is room
-abbrev pub Holds : Run → List ℕ → List ℕ → Type 0
-Holds t kept s = t.over ≡ false → take t.have kept ≡ take (length kept) s
+-- what is kept is what was, and after it the part, as far as there is room
+abbrev pub Keeps : List ℕ → ℕ → List ℕ → List ℕ → ℕ → Type 0
+Keeps old have part new next = Holds new next (kept_line old have ++ part)

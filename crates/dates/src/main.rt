@@ -6,359 +6,252 @@
 // a longer one is too long. The last line needs no newline, and a last newline begins no line.
 #![tactic(auto)]
 
-ghost use Rattle.std.specs.Prelude.{◌≡◌, ◌+◌, ◌-◌, ◌≤◌, ◌<◌, ltb, length, take};
-ghost use Rattle.text.specs.Places.{Passed};
+ghost use Rattle.std.specs.Prelude.{◌≡◌, ◌-◌, ◌≤◌, ◌<◌, ◌++◌, OnOk, ltb, length, take, drop};
+ghost use Rattle.rules.specs.Program.{line};
 ghost use Rattle.digits.specs.Writers.{Room, Laid};
-ghost use Rattle.dates.specs.Answers.{in_line, text_length, line_text, last_from, last_after, Answers};
-ghost use Rattle.dates.specs.Buffers.{Within, Same, HasRoom, Keeps, Holds};
+ghost use Rattle.dates.specs.Answers.{text_length, line_text, last_in, last_after, Answers};
+ghost use Rattle.dates.specs.Buffers.{kept_line, HasRoom, Keeps, Holds};
 
-use lines::First;
-use rules::{Answer, Setting};
+use rules::{Answer, Setting, Unanswered};
 use std::io::{Stderr, Stdin, Stdout};
+use streams::{Unread, Unwritten};
 
 const NEWLINE: u8 = 10;
 
 // "Its buffer [is] 16,384 bytes": what is lent for an answer. A newline follows it.
 const ANSWER: usize = 16384;
 
-// ---- lines of a block
+// ---- a buffer, of which the first bytes are used
 
-// How far a block is answered, and how many bytes of the output stand in its buffer.
-#[derive(Clone, Copy)]
-struct Place {
-    at: usize,
+#[derive(Drop)]
+struct Buffer<const N: usize> {
+    bytes: [u8; N],
     used: usize,
+    ghost long: { length bytes ≡ N },
+    ghost within: { used ≤ N },
 }
 
-// Answers the lines that end in a block, from a place on, while there is room for one more answer.
-fn answer_lines(
-    set: Setting,
-    block: &[u8],
-    at: usize,
-    room: &mut [u8; 8192],
-    out: &mut [u8],
-    used: usize,
-) -> Place
-    requires at_in { at ≤ length block.now }
-    requires used_in { used ≤ length out.old }
-    ensures { Answers set block.now at used out.old out.new result }
-{
-    let mut from = at;
-    let mut next = used;
-    while has_room(out, next) {
-        let end = line_end(block, from);
-        if block.len() <= end {
-            return Place {
-                at: from,
-                used: next,
+impl<const N: usize> Buffer<N> {
+    fn new() -> Buffer<N> {
+        Buffer {
+            bytes: [0; N],
+            used: 0,
+        }
+    }
+
+    fn text(&self) -> &[u8]
+        ensures { result.now ≡ take self.now.used self.now.bytes }
+    {
+        &self.bytes[..self.used]
+    }
+
+    // Adds a text.
+    fn put(&mut self, s: &[u8])
+        requires { Room self.old.bytes self.old.used s.now }
+        ensures { Laid self.old.bytes self.old.used s.now self.new.bytes self.new.used }
+    {
+        let end = self.used + s.len();
+        let bytes = &mut self.bytes[..];
+        bytes[self.used..end].copy_from_slice(s);
+        self.used = end;
+    }
+
+    // Adds a part of a line, as far as there is room.
+    fn keep(&mut self, part: &[u8])
+        ensures { Keeps self.old.bytes self.old.used part.now self.new.bytes self.new.used }
+    {
+        let n = (N - self.used).min(part.len());
+        self.put(&part[..n]);
+    }
+}
+
+// ---- the output
+
+type Output = Buffer<65536>;
+
+impl Output {
+    // Whether an answer and its newline have room.
+    fn has_room(&self) -> bool
+        ensures { result ≡ ltb 16384 (65536 - self.now.used) }
+    {
+        ANSWER < self.bytes.len() - self.used
+    }
+
+    // A line's answer and a newline.
+    fn put_line(&mut self, set: Setting, s: &[u8], room: &mut [u8; 8192])
+        requires { HasRoom self.old.used }
+        ensures { Laid self.old.bytes self.old.used (line_text set s.now) self.new.bytes self.new.used }
+    {
+        let end = self.used + ANSWER;
+        let n = answer(set, s, room, &mut self.bytes[self.used..end]);
+        self.used += n;
+        self.put(b"\n");
+    }
+
+    // Answers the lines that end in a block, while there is room for one more answer: what is left of the block.
+    fn answer_lines<'a>(&mut self, set: Setting, block: &'a [u8], room: &mut [u8; 8192]) -> &'a [u8]
+        ensures { Answers set block.now self.old.bytes self.old.used self.new.bytes self.new.used result.now }
+    {
+        let mut rest = block;
+        while self.has_room() {
+            let (line, after) = text::cut(rest, NEWLINE);
+            let Some(after) = after else {
+                return rest;
             };
+            self.put_line(set, line, room);
+            rest = after;
         }
-        next = put_line(set, &block[from..end], room, out, next);
-        from = end + 1;
+        rest
     }
-    Place {
-        at: from,
-        used: next,
+
+    // Writes out what is there.
+    fn flush(&mut self, stdout: &mut Stdout) -> Result<(), Unwritten>
+        ensures { self.new.used ≡ 0 }
+    {
+        let used = self.used;
+        self.used = 0;
+        streams::write_all(stdout, &self.bytes[..used])
     }
-}
 
-// Whether an answer and its newline have room.
-fn has_room(out: &[u8], used: usize) -> bool
-    requires { used ≤ length out.now }
-    ensures { result ≡ ltb 16384 (length out.now - used) }
-{
-    ANSWER < out.len() - used
-}
-
-// Where the line that begins at a place ends: at its newline, or at the end of the block.
-fn line_end(block: &[u8], at: usize) -> usize
-    ensures { Passed in_line block.now at result }
-{
-    let mut i = at;
-    while i < block.len() {
-        if block[i] == NEWLINE {
-            return i;
+    // Writes it out where an answer might find no room.
+    fn make_room(&mut self, stdout: &mut Stdout) -> Result<(), Unwritten>
+        ensures { HasRoom self.new.used }
+    {
+        if self.has_room() {
+            return Ok(());
         }
-        i += 1;
+        self.flush(stdout)
     }
-    i
 }
 
-// A line's answer and a newline. None is longer than 16,384 bytes, so each finds room.
-fn put_line(set: Setting, s: &[u8], room: &mut [u8; 8192], out: &mut [u8], used: usize) -> usize
-    requires { 16384 < length out.old - used }
-    ensures laid { Laid out.old used (line_text set s.now) out.new result }
-    ensures upper_bound { result ≤ length out.new }
+// A line's answer at the front of a buffer, and how many bytes it has. None is longer than 16,384 bytes, so each finds room.
+fn answer(set: Setting, s: &[u8], room: &mut [u8; 8192], out: &mut [u8]) -> usize
+    requires { 16384 ≤ length out.old }
+    ensures size { (result ≡ length (line set s.now)) × (result ≤ 16384) }
+    ensures bytes { out.new ≡ line set s.now ++ drop result out.old }
 {
-    let end = used + ANSWER;
-    let n = text_length(lines::line(set, s, room, &mut out[used..end]));
-    put(out, used + n, b"\n")
+    text_length(lines::line(set, s, room, out))
 }
 
 // How many bytes a text has that found room: no other answer comes of a line.
-fn text_length(a: Answer) -> usize
+fn text_length(a: Result<Answer, Unanswered>) -> usize
     ensures { result ≡ text_length a }
 {
     match a {
-        Answer::Text(n) => n,
-        Answer::Integer(_) => 0,
-        Answer::Real(_) => 0,
-        Answer::Refused(_) => 0,
-        Answer::NoRoom(_) => 0,
+        Ok(Answer::Text(n)) => n,
+        _ => 0,
     }
-}
-
-// Lays a text at a place.
-fn put(out: &mut [u8], at: usize, s: &[u8]) -> usize
-    requires { Room out.old at s.now }
-    ensures { Laid out.old at s.now out.new result }
-{
-    let mut i = 0;
-    while i < s.len() {
-        out[at + i] = s[i];
-        i += 1;
-    }
-    at + i
 }
 
 // ---- the run
 
+// Why nothing more is read, where it isn't the input's end.
 #[derive(Clone, Copy)]
+enum Stop {
+    // "a bad first line": its answer is put
+    First,
+    Unread,
+    Unwritten,
+}
+
+impl From<Unread> for Stop {
+    fn from(_: Unread) -> Stop {
+        Stop::Unread
+    }
+}
+
+impl From<Unwritten> for Stop {
+    fn from(_: Unwritten) -> Stop {
+        Stop::Unwritten
+    }
+}
+
+#[derive(Drop)]
 struct Run {
-    // of the first line, once it has been read: begun
-    set: Setting,
-    begun: bool,
-    // how many bytes are kept of a line that began in an earlier block
-    have: usize,
-    // how many bytes of the output stand in its buffer
-    used: usize,
-    // nothing more is to be read: the input ended or could not be read, the first line was bad, or the output could not be written
-    over: bool,
-    unread: bool,
-    unwritten: bool,
+    // of the first line, once it has been read
+    set: Option<Setting>,
+    // the first bytes of a line that goes on in the next block
+    kept: Buffer<8193>,
+    // what is to be written
+    out: Output,
+    // for a line's modifiers
+    room: [u8; 8192],
 }
 
-// One block of the input.
-fn take(
-    stdout: &mut Stdout,
-    t: Run,
-    block: &[u8],
-    kept: &mut [u8],
-    room: &mut [u8; 8192],
-    out: &mut [u8],
-) -> Run
-    requires { Within t kept.old out.old }
-    ensures within { Within result kept.new out.new }
-    ensures holds { Holds result kept.new (last_after (take t.have kept.old) block.now) }
-{
-    if t.begun {
-        if t.have == 0 {
-            return take_from(stdout, t, block, 0, kept, room, out);
+impl Run {
+    // One block of the input.
+    fn take(&mut self, stdout: &mut Stdout, block: &[u8]) -> Result<(), Stop>
+        ensures { OnOk result (Holds self.new.kept.bytes self.new.kept.used (last_after (kept_line self.old.kept.bytes self.old.kept.used) block.now)) }
+    {
+        if let Some(set) = self.set && self.kept.used == 0 {
+            return self.take_lines(stdout, set, block);
         }
+        let (end, after) = text::cut(block, NEWLINE);
+        self.kept.keep(end);
+        let Some(after) = after else {
+            return Ok(());
+        };
+        let set = self.close(stdout)?;
+        self.take_lines(stdout, set, after)
     }
-    let end = line_end(block, 0);
-    let mut r = t;
-    r.have = keep(kept, t.have, &block[..end]);
-    if block.len() <= end {
-        return r;
-    }
-    r = close(stdout, r, kept, room, out);
-    take_from(stdout, r, block, end + 1, kept, room, out)
-}
 
-// The lines of a block from a place on; what begins a line at its end is kept.
-fn take_from(
-    stdout: &mut Stdout,
-    t: Run,
-    block: &[u8],
-    from: usize,
-    kept: &mut [u8],
-    room: &mut [u8; 8192],
-    out: &mut [u8],
-) -> Run
-    requires within { Within t kept.old out.old }
-    requires from_in { from ≤ length block.now }
-    ensures within { Within result kept.new out.new }
-    ensures holds { Holds result kept.new (last_from block.now from) }
-{
-    let mut r = t;
-    let mut at = from;
-    while !r.over {
-        r = make_room(stdout, r, out);
-        if r.over {
-            return r;
+    // The lines of a block; what begins a line at its end is kept.
+    fn take_lines(&mut self, stdout: &mut Stdout, set: Setting, block: &[u8]) -> Result<(), Stop>
+        ensures { OnOk result (Holds self.new.kept.bytes self.new.kept.used (last_in block.now)) }
+    {
+        let mut rest = block;
+        loop {
+            self.out.make_room(stdout)?;
+            let left = self.out.answer_lines(set, rest, &mut self.room);
+            if left.len() == rest.len() {
+                break;
+            }
+            rest = left;
         }
-        let p = answer_lines(r.set, block, at, room, out, r.used);
-        r.used = p.used;
-        if p.at == at {
-            r.have = keep(kept, 0, &block[at..]);
-            return r;
+        self.kept.used = 0;
+        self.kept.keep(rest);
+        Ok(())
+    }
+
+    // The end of the line that is kept: the first one, or one to answer. What the first one said.
+    fn close(&mut self, stdout: &mut Stdout) -> Result<Setting, Stop> {
+        self.out.make_room(stdout)?;
+        let set = match self.set {
+            Some(set) => {
+                self.out.put_line(set, self.kept.text(), &mut self.room);
+                set
+            }
+            None => match lines::first_line(self.kept.text()) {
+                Some(set) => set,
+                None => {
+                    self.out.put(b"refused 4\n");
+                    return Err(Stop::First);
+                }
+            },
+        };
+        self.set = Some(set);
+        self.kept.used = 0;
+        Ok(set)
+    }
+
+    // The end of the input: what is kept is its last line, and a missing first line is a bad one.
+    fn finish(&mut self, stdout: &mut Stdout) -> Result<(), Stop> {
+        if self.set.is_none() || self.kept.used > 0 {
+            self.close(stdout)?;
         }
-        at = p.at;
+        Ok(())
     }
-    r
-}
 
-// Keeps a part of a line after what is kept of it, as far as there is room.
-fn keep(kept: &mut [u8], have: usize, part: &[u8]) -> usize
-    requires { have ≤ length kept.old }
-    ensures { Keeps kept.old have part.now kept.new result }
-{
-    let mut i = 0;
-    while i < part.len() {
-        if kept.len() <= have + i {
-            return have + i;
+    // Reads all blocks. The turns end, as Rattle asks of every loop: after more bytes than any input has.
+    fn read_all(&mut self, stdin: &mut Stdin, stdout: &mut Stdout, block: &mut [u8]) -> Result<(), Stop> {
+        for _ in 0..u64::MAX {
+            let n = streams::read(stdin, block)?;
+            if n == 0 {
+                return self.finish(stdout);
+            }
+            self.take(stdout, &block[..n])?;
         }
-        kept[have + i] = part[i];
-        i += 1;
-    }
-    have + i
-}
-
-// The line that is kept, at its end.
-fn close(stdout: &mut Stdout, t: Run, kept: &[u8], room: &mut [u8; 8192], out: &mut [u8]) -> Run
-    requires { Within t kept.now out.old }
-    ensures { Within result kept.now out.new }
-{
-    let mut r = make_room(stdout, t, out);
-    let have = t.have;
-    r.have = 0;
-    if t.begun {
-        r.used = put_line(t.set, &kept[..have], room, out, r.used);
-        return r;
-    }
-    r.begun = true;
-    match lines::first_line(&kept[..have]) {
-        First::Is(set) => {
-            r.set = set;
-            r
-        }
-        First::Bad => {
-            r.used = put(out, r.used, b"refused 4\n");
-            r.over = true;
-            r
-        }
-    }
-}
-
-// Writes the output out where an answer might find no room.
-fn make_room(stdout: &mut Stdout, t: Run, out: &[u8]) -> Run
-    requires used_in { t.used ≤ length out.now }
-    requires holds_answer { 16384 < length out.now }
-    ensures { Same t result × HasRoom result out.now }
-{
-    let used = t.used;
-    if has_room(out, used) {
-        return t;
-    }
-    flush(stdout, t, out)
-}
-
-// Writes out what stands in the output's buffer. What comes after a part that could not be written is not written.
-fn flush(stdout: &mut Stdout, t: Run, out: &[u8]) -> Run
-    requires { t.used ≤ length out.now }
-    ensures { Same t result × (result.used ≡ 0) }
-{
-    let mut r = t;
-    let used = t.used;
-    r.used = 0;
-    if t.unwritten {
-        return r;
-    }
-    if !streams::write_all(stdout, &out[..used]) {
-        r.unwritten = true;
-        r.over = true;
-    }
-    r
-}
-
-// The end of the input: what is kept is its last line, and a missing first line is a bad one.
-fn finish(stdout: &mut Stdout, t: Run, kept: &[u8], room: &mut [u8; 8192], out: &mut [u8]) -> Run
-    requires { Within t kept.now out.old }
-    ensures { Within result kept.now out.new }
-{
-    let mut r = t;
-    if t.begun {
-        if t.have == 0 {
-            r.over = true;
-            return r;
-        }
-    }
-    r = close(stdout, t, kept, room, out);
-    r.over = true;
-    r
-}
-
-// Reads a block, and answers its lines.
-fn read_block(
-    stdin: &mut Stdin,
-    stdout: &mut Stdout,
-    t: Run,
-    block: &mut [u8],
-    kept: &mut [u8],
-    room: &mut [u8; 8192],
-    out: &mut [u8],
-) -> Run
-    requires { Within t kept.old out.old }
-    ensures { Within result kept.new out.new }
-{
-    let Some(n) = streams::read(stdin, block) else {
-        let mut r = t;
-        r.over = true;
-        r.unread = true;
-        return r;
-    };
-    if n == 0 {
-        return finish(stdout, t, kept, room, out);
-    }
-    take(stdout, t, &block[..n], kept, room, out)
-}
-
-// Reads all blocks. The turns end, as Rattle asks of every loop: after more bytes than any input has.
-fn read_all(
-    stdin: &mut Stdin,
-    stdout: &mut Stdout,
-    block: &mut [u8],
-    kept: &mut [u8],
-    room: &mut [u8; 8192],
-    out: &mut [u8],
-) -> Run
-    requires { 16384 < length out.old }
-    ensures { result.used ≤ length out.new }
-{
-    let mut t = Run {
-        set: Setting {
-            clock: 0,
-            offset: 0,
-        },
-        begun: false,
-        have: 0,
-        used: 0,
-        over: false,
-        unread: false,
-        unwritten: false,
-    };
-    let mut turns = u64::MAX;
-    while turns > 0 {
-        t = read_block(stdin, stdout, t, block, kept, room, out);
-        if t.over {
-            return t;
-        }
-        turns -= 1;
-    }
-    t
-}
-
-// Writes out what is left, and says what could not be read or written.
-fn end(stdout: &mut Stdout, stderr: &mut Stderr, t: Run, out: &[u8])
-    requires { t.used ≤ length out.now }
-{
-    let r = flush(stdout, t, out);
-    if r.unread {
-        streams::write_all(stderr, b"dates: the input cannot be read\n");
-    }
-    if r.unwritten {
-        streams::write_all(stderr, b"dates: the output cannot be written\n");
+        Ok(())
     }
 }
 
@@ -367,16 +260,26 @@ fn main(rt: HostRuntime) {
     let mut stdout = rt.stdout();
     let mut stderr = rt.stderr();
     let mut block = [0u8; 65536];
-    let mut kept = [0u8; 8193];
-    let mut room = [0u8; 8192];
-    let mut out = [0u8; 65536];
-    let t = read_all(
-        &mut stdin,
-        &mut stdout,
-        &mut block,
-        &mut kept,
-        &mut room,
-        &mut out,
-    );
-    end(&mut stdout, &mut stderr, t, &out);
+    let mut run = Run {
+        set: None,
+        kept: Buffer::new(),
+        out: Buffer::new(),
+        room: [0; 8192],
+    };
+    let read = run.read_all(&mut stdin, &mut stdout, &mut block);
+    end(&mut stdout, &mut stderr, read, &mut run.out);
+}
+
+// Writes out what is left, and says what could not be read or written. What comes after a part that could not be written is not written.
+fn end(stdout: &mut Stdout, stderr: &mut Stderr, read: Result<(), Stop>, out: &mut Output) {
+    let written = match read {
+        Err(Stop::Unwritten) => Err(Unwritten),
+        _ => out.flush(stdout),
+    };
+    if let Err(Stop::Unread) = read {
+        let _ = streams::write_all(stderr, b"dates: the input cannot be read\n");
+    }
+    if written.is_err() {
+        let _ = streams::write_all(stderr, b"dates: the output cannot be written\n");
+    }
 }

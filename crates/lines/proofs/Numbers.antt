@@ -1,26 +1,27 @@
--- Digits alone whose number has a limit, at one place after another, and the first line's two fields. Assumes nothing.
+-- Digits alone whose number has a limit, one after another, and the first line's two fields. Assumes nothing.
 use Prim.Native.Nat.{ℕ, zero, suc, ◌+◌, ◌-◌, ◌*◌, ◌≤◌, ◌<◌}
 use mathlib.Core.Bool.{Bool, true, false, not, ◌||◌}
-use mathlib.Core.Path.{◌≡◌, refl, ap, ◌∙◌}
+use mathlib.Core.Path.{◌≡◌, refl, sym, ap, ◌∙◌}
 use mathlib.Core.List.{List, [], ◌∷◌}
+use native.Mathlib.Numerals.{add-one}
 use native.Mathlib.Omega.{arith}
+use borrow.Author.Tests.{le-leb, lt-leb, leb-true, leb-false, le-ltb, lt-ltb, eqb-true}
 use lib.Dec.{eqb, ltb, leb}
 use lib.IntN.{ℤ, pos, neg_ℤ}
-use native.Mathlib.Nat.{sub-zero}
-use lib.ListN.{length, get_or, take, drop}
-use borrow.Author.Tests.{le-leb, lt-leb, leb-true, leb-false, le-ltb, lt-ltb}
+use lib.ListN.{length, get_or, drop}
+use lib.Seq.{drop-cons}
+use Rattle.std.specs.Prelude.{Option, Some, None}
 use Rattle.rules.specs.Basics.{is_digit, Read, got, other, refuse, ◌>>=◌, ◌or◌, only_if, ended, byte}
 use Rattle.rules.specs.Calls.{far_off, bad_setting}
 use Rattle.rules.specs.Decimal.{run, value, some}
 use Rattle.rules.specs.Program.{digits_all, signed_all, two_fields, first_line}
 use Rattle.rules.specs.declared.Setting.{Setting}
-use Rattle.text.specs.Places.{part, stands, Passed}
-use Rattle.text.proofs.Digits.{run_on, run_stop, run_past}
-use Rattle.text.proofs.Reading.{bind_other, ended_other, stands_cons, byte_other}
-use Rattle.lines.specs.Fields.{in_field, fields_after}
-use Rattle.lines.specs.First.{up_to, AtMost, near}
-use Rattle.lines.specs.declared.clock.Number.{Number}
-use Rattle.lines.proofs.Parts.{parts_split, field_at, after_end, after_tab}
+use Rattle.text.specs.Places.{after_byte, IsCut}
+use Rattle.text.proofs.Numbers.{run_on, run_stop}
+use Rattle.text.proofs.Reading.{byte_after}
+use Rattle.lines.specs.Fields.{is_tab, fields_of}
+use Rattle.lines.specs.First.{up_to, near}
+use Rattle.lines.proofs.Parts.{cut_fields, parts_some}
 
 -- a number that must be at most `most`
 abbrev limit : ℕ → ℕ → Read ℕ
@@ -35,21 +36,25 @@ unfolding digits_all run
 number_none most [] h = refl
 number_none most (b ∷ s) h = absurd (omega arith)
 
-pub number_start : (most : ℕ) (s : List ℕ) → 0 < length s → up_to most s ≡ on_from most 0 s
+pub number_start : (most : ℕ) (s : List ℕ) → (length s ≡ 0 → ⊥) → up_to most s ≡ on_from most 0 s
 unfolding digits_all
-number_start most s h = go (is_digit (get_or s 0 0)) refl
+number_start most [] h = absurd (h refl)
+number_start most (b ∷ s) h = go (is_digit b) refl
   where
-    go : (t : Bool) → is_digit (get_or s 0 0) ≡ t → up_to most s ≡ on_from most 0 s
-    go true e = rw (run_on s 0 h e)
-    go false e = rw (run_stop s 0 h e, ended_other {A = ℕ} s 0 (value 0 []) h)
+    go : (t : Bool) → is_digit b ≡ t → up_to most (b ∷ s) ≡ on_from most 0 (b ∷ s)
+    go true e = rw (run_on (b ∷ s) b s refl e)
+    go false e = rw (run_stop (b ∷ s) b s refl e)
 
 module _ (most v : ℕ) (s : List ℕ) (i : ℕ) (h : i < length s) where
+  here : drop i s ≡ get_or s i 0 ∷ drop (i + 1) s
+  here = rw add-one (drop-cons s i 0 h)
+
   pub number_on : (d : ℕ) → is_digit (get_or s i 0) ≡ true → d ≡ get_or s i 0 - 48 → on_from most v (drop i s) ≡ on_from most (v * 10 + d) (drop (i + 1) s)
   unfolding value
-  number_on d e k = rw (run_on s i h e, k)
+  number_on d e k = rw (run_on _ _ _ here e, k)
 
   pub number_stop : is_digit (get_or s i 0) ≡ false → on_from most v (drop i s) ≡ other
-  number_stop e = rw (run_stop s i h e) (bind_other (limit most) (ended_other s i (value v []) h))
+  number_stop e = rw (run_stop _ _ _ here e, here)
 
 value_more : (v : ℕ) (ds : List ℕ) → v ≤ value v ds
 unfolding value
@@ -63,12 +68,9 @@ number_over most v l h = go (run l).1
     go [] = rw (lt-leb (value v (run l).0) most (omega (arith, value_more v (run l).0)))
     go (b ∷ r) = refl
 
-pub number_past : (most v : ℕ) (s : List ℕ) (i : ℕ) → length s ≤ i → v ≤ most → on_from most v (drop i s) ≡ got v
-unfolding value
-number_past most v s i h k = rw (run_past s i h, le-leb v most k)
-
-pub at_most : {most n : ℕ} {r : Number} → AtMost most r → r ≡ Number.Is n → n ≤ most
-at_most h e = rw e at h
+pub number_end : (most v : ℕ) → v ≤ most → on_from most v [] ≡ got v
+unfolding run value
+number_end most v k = rw (le-leb v most k)
 
 -- ---- an offset
 -- over a limit, and not
@@ -97,9 +99,17 @@ minus_none : (l : List ℕ) → digits_all (45 ∷ l) ≡ other
 unfolding digits_all run
 minus_none l = refl
 
-pub near_west : (s : List ℕ) → stands 45 s 0 ≡ true → near s ≡ ◌>>=◌ (up_to 86399 (drop 1 s)) (λ n. got (neg_ℤ (pos n)))
+minus_first : (s w : List ℕ) → after_byte 45 s ≡ got w → s ≡ 45 ∷ w
+minus_first [] w h = absurd (let z : ◌≡◌ {A = ℕ} 0 1 = cc in omega arith)
+minus_first (b ∷ s) w h = go (eqb 45 b) (eqb-true 45 b) h
+  where
+    go : (t : Bool) → (t ≡ true → 45 ≡ b) → only_if t s ≡ got w → b ∷ s ≡ 45 ∷ w
+    go true e h = cc (e refl)
+    go false e h = absurd (let z : ◌≡◌ {A = ℕ} 0 1 = cc in omega arith)
+
+pub near_west : (s w : List ℕ) → got w ≡ after_byte 45 s → near s ≡ ◌>>=◌ (up_to 86399 w) west
 unfolding signed_all
-near_west s h = rw (stands_cons 45 s 0 h, minus_none (drop 1 s)) (go (digits_all (drop 1 s)))
+near_west s w h = rw (minus_first s w (sym h), minus_none w) (go (digits_all w))
   where
     go : (r : Read ℕ) → ◌>>=◌ (◌>>=◌ r west) close ≡ ◌>>=◌ (◌>>=◌ r (limit 86399)) west
     go (got n) = rw (far_west n, over_is 86399 n) (pick (leb n 86399))
@@ -110,9 +120,9 @@ near_west s h = rw (stands_cons 45 s 0 h, minus_none (drop 1 s)) (go (digits_all
     go other = refl
     go (refuse x) = refl
 
-pub near_east : (s : List ℕ) → stands 45 s 0 ≡ false → near s ≡ ◌>>=◌ (up_to 86399 s) (λ n. got (pos n))
+pub near_east : (s : List ℕ) → other ≡ after_byte 45 s → near s ≡ ◌>>=◌ (up_to 86399 s) east
 unfolding signed_all
-near_east s h = rw (byte_other "-" s 0 h) (go (digits_all s))
+near_east s h = rw (byte_after "-" s ∙ sym h) (go (digits_all s))
   where
     go : (r : Read ℕ) → ◌>>=◌ (◌>>=◌ r east or other) close ≡ ◌>>=◌ (◌>>=◌ r (limit 86399)) east
     go (got n) = rw (over_is 86399 n) (pick (leb n 86399))
@@ -191,25 +201,11 @@ pub first_long : (s : List ℕ) → 8192 < length s → first_line s ≡ other
 unfolding first_line
 first_long s h = rw (lt-leb (length s) 8192 h)
 
-module _ (s : List ℕ) (tab : ℕ) (few : length s ≤ 8192) (first : Passed in_field s 0 tab) where
-  fields : first_line s ≡ two_fields (part s 0 tab ∷ fields_after (drop tab s))
+module _ (s front : List ℕ) (rest : Option (List ℕ)) (few : length s ≤ 8192) (first : IsCut 9 s front rest) where
+  pub first_is : first_line s ≡ two_fields (front ∷ fields_of rest)
   unfolding first_line
-  fields = rw (le-leb (length s) 8192 few) (ap two_fields (field_at s 0 tab first))
+  first_is = rw (le-leb (length s) 8192 few) (ap two_fields (cut_fields s front rest first))
 
-  -- one field
-  pub first_one : length s ≤ tab → first_line s ≡ other
-  first_one h = fields ∙ rw (after_end s tab h)
-
-  module _ (more : tab < length s) (end : ℕ) (second : Passed in_field s (tab + 1) end) where
-    fields_two : first_line s ≡ two_fields (part s 0 tab ∷ part s (tab + 1) end ∷ fields_after (drop end s))
-    fields_two = fields ∙ rw (after_tab s tab more, field_at s (tab + 1) end second)
-
-    -- three
-    pub first_three : end < length s → first_line s ≡ other
-    first_three h = fields_two ∙ rw (after_tab s end h, parts_split (drop (end + 1) s))
-
-    -- two
-    pub first_two : length s ≤ end → first_line s ≡ two_fields (take tab s ∷ part s (tab + 1) (length s) ∷ [])
-    first_two h =
-        let e : end ≡ length s = omega (arith, second.inside) in
-        fields_two ∙ rw (after_end s end h, e, sub-zero)
+-- one field alone, and three
+pub first_three : (a b l : List ℕ) → two_fields (a ∷ b ∷ fields_of (Some l)) ≡ other
+first_three a b l = rw (parts_some l).is refl

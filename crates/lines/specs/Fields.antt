@@ -1,23 +1,31 @@
--- The fields of a line, as the code finds them: one place after another.
-use Rattle.std.specs.Prelude.{ℕ, Bool, not, ◌&&◌, List, [], ◌∷◌, eqb, leb, length}
+-- The fields of a line, as the code finds them: one after another.
+use Rattle.std.specs.Prelude.{ℕ, suc, Bool, not, ◌&&◌, ◌≤◌, ◌≡◌, List, [], ◌∷◌, Option, Some, None, Result, Ok, Err, eqb, leb, length}
+use Rattle.std.specs.Borrow.{Bor}
 use Rattle.std.proofs.lemmas.List.Edits.{sets}
 use Rattle.rules.specs.Basics.{every, parts, Read, got, other, refuse, ◌or◌, ◌>>=◌}
 use Rattle.rules.specs.Calls.{Call, call, strftime, timediff, Outcome}
 use Rattle.rules.specs.Functions.{answer, settle}
 use Rattle.rules.specs.declared.Refusal.{Refusal}
 use Rattle.rules.specs.declared.Setting.{Setting}
+use Rattle.text.specs.Places.{rest_of}
 
 abbrev pub is_tab : ℕ → Bool
 is_tab b = eqb b 9
 
--- a byte of a field: any but the tab that ends it
-abbrev pub in_field : ℕ → Bool
-in_field b = not (is_tab b)
+-- the fields of what follows a field: none, where nothing does
+abbrev pub fields_of : Option (List ℕ) → List (List ℕ)
+fields_of (Some s) = parts is_tab s
+fields_of None = []
 
--- the fields after one that ends here: at its tab, or at the end of the line, and then there are none
-abbrev pub fields_after : List ℕ → List (List ℕ)
-fields_after [] = []
-fields_after (b ∷ s) = parts is_tab s
+-- and how many bytes follow it: a tab, and the rest
+abbrev pub following : Option (List ℕ) → ℕ
+following (Some s) = suc (length s)
+following None = 0
+
+-- the next field is taken; or there is none
+abbrev pub TakesField : Option (List ℕ) → Result (Bor (List ℕ) × Option (Bor (List ℕ))) Refusal → Type 0
+TakesField rest (Ok (field, after)) = (fields_of rest ≡ field.now ∷ fields_of (rest_of after)) × (following (rest_of after) ≤ following rest)
+TakesField rest (Err x) = (x ≡ Refusal.Shape) × (fields_of rest ≡ [])
 
 -- "A line over 8,192 bytes, or with a zero byte" is no call
 abbrev pub plain : List ℕ → Bool

@@ -1,9 +1,9 @@
 // "First clock and offset (digits, a minus allowed before the offset)".
-ghost use Rattle.std.specs.Prelude.{◌≡◌, [], ◌∷◌, ◌-◌, ◌≤◌, pos, neg_ℤ};
+ghost use Rattle.std.specs.Prelude.{◌≡◌, [], ◌∷◌, ◌≤◌, IfSome};
+ghost use Rattle.rules.specs.Basics.{read_some};
 ghost use Rattle.rules.specs.Program.{two_fields};
-ghost use Rattle.lines.specs.First.{setting_of, number_of, offset_of, up_to, AtMost, near};
+ghost use Rattle.lines.specs.First.{up_to, near};
 
-use crate::First;
 use rules::Setting;
 
 // The limits of refusal 4: milliseconds from 1970, and seconds east or west.
@@ -12,85 +12,42 @@ const CLOCK_MAX: u64 = 253402300799999;
 const OFFSET_MAX: u64 = 86399;
 
 // The two fields of a first line.
-pub fn setting(clock: &[u8], offset: &[u8]) -> First
-    ensures { setting_of result ≡ two_fields (clock.now ∷ offset.now ∷ []) }
+pub fn setting(clock: &[u8], offset: &[u8]) -> Option<Setting>
+    ensures { read_some (λ set. set) result ≡ two_fields (clock.now ∷ offset.now ∷ []) }
 {
-    let Number::Is(ms) = number_of(clock, CLOCK_MAX) else {
-        return First::Bad;
-    };
-    let Offset::Is(seconds) = offset_of(offset) else {
-        return First::Bad;
-    };
-    First::Is(Setting {
-        clock: ms,
-        offset: seconds,
+    Some(Setting {
+        clock: number_of(clock, CLOCK_MAX)?,
+        offset: offset_of(offset)?,
     })
 }
 
-#[derive(Clone, Copy)]
-enum Offset {
-    Is(i64),
-    Bad,
-}
-
-fn offset_of(s: &[u8]) -> Offset
-    ensures { offset_of result ≡ near s.now }
+fn offset_of(s: &[u8]) -> Option<i64>
+    ensures { read_some (λ z. z) result ≡ near s.now }
 {
-    if text::has(s, 0, b'-') {
-        let Number::Is(west) = number_of(&s[1..], OFFSET_MAX) else {
-            return Offset::Bad;
-        };
-        return Offset::Is(minus(west));
+    match text::byte(s, b'-') {
+        Some(west) => Some(-(number_of(west, OFFSET_MAX)? as i64)),
+        None => Some(number_of(s, OFFSET_MAX)? as i64),
     }
-    let Number::Is(east) = number_of(s, OFFSET_MAX) else {
-        return Offset::Bad;
-    };
-    Offset::Is(east as i64)
-}
-
-// So many seconds west.
-fn minus(seconds: u64) -> i64
-    requires { seconds ≤ 86399 }
-    ensures { result ≡ neg_ℤ (pos seconds) }
-{
-    -(seconds as i64)
-}
-
-#[derive(Clone, Copy)]
-enum Number {
-    Is(u64),
-    Bad,
 }
 
 // Digits alone, at least one, of any number, whose number is at most `most`. A number that is more is given up at once, so none wraps.
-fn number_of(s: &[u8], most: u64) -> Number
+fn number_of(s: &[u8], most: u64) -> Option<u64>
     requires { most ≤ 253402300799999 }
-    ensures result_value { number_of result ≡ up_to most s.now }
-    ensures at_most { AtMost most result }
+    ensures value { read_some (λ n. n) result ≡ up_to most s.now }
+    ensures at_most { IfSome result (λ n. n ≤ most) }
 {
-    if s.len() == 0 {
-        return Number::Bad;
+    if s.is_empty() {
+        return None;
     }
     let mut n: u64 = 0;
-    let mut i = 0;
-    while i < s.len() {
-        let b = s[i];
-        if !text::is_digit(b) {
-            return Number::Bad;
+    for b in s {
+        if !text::is_digit(*b) {
+            return None;
         }
-        n = n * 10 + value(b);
+        n = n * 10 + u64::from(*b - b'0');
         if most < n {
-            return Number::Bad;
+            return None;
         }
-        i += 1;
     }
-    Number::Is(n)
-}
-
-// The number that a digit writes.
-fn value(b: u8) -> u64
-    requires { (48 ≤ b) × (b ≤ 57) }
-    ensures { (result ≡ b - 48) × (result ≤ 9) }
-{
-    (b - b'0') as u64
+    Some(n)
 }

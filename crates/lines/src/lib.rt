@@ -6,12 +6,13 @@
 #![tactic(auto)]
 
 ghost use Rattle.std.specs.Prelude.{◌≡◌, length};
+ghost use Rattle.rules.specs.Basics.{read_some};
 ghost use Rattle.rules.specs.Calls.{text, answered, after};
 ghost use Rattle.rules.specs.Program as rule;
 ghost use Rattle.lines.specs.Fields.{laid_out};
-ghost use Rattle.lines.specs.First.{setting_of};
 
-use rules::{Answer, Setting};
+use fields::TAB;
+use rules::{Answer, Setting, Unanswered};
 
 mod answers;
 mod calls;
@@ -23,7 +24,12 @@ mod names;
 //
 // `room` is for the line's modifiers, which are laid out at its front, each ended by a zero byte, as crate datetime takes them; no other
 // byte of it changes. They are shorter than the line, and a line that may be a call has at most 8,192 bytes.
-pub fn line(set: Setting, s: &[u8], room: &mut [u8; 8192], out: &mut [u8]) -> Answer
+pub fn line(
+    set: Setting,
+    s: &[u8],
+    room: &mut [u8; 8192],
+    out: &mut [u8],
+) -> Result<Answer, Unanswered>
     ensures value { result ≡ answered (text (rule.line set s.now)) (length out.old) }
     ensures out_after { out.new ≡ after (text (rule.line set s.now)) out.old }
     ensures room_after { room.new ≡ laid_out (rule.line_call s.now) room.old }
@@ -32,26 +38,17 @@ pub fn line(set: Setting, s: &[u8], room: &mut [u8; 8192], out: &mut [u8]) -> An
     answers::show(a, out)
 }
 
-// The first line: a clock and an offset, or "a bad first line".
-#[derive(Clone, Copy)]
-pub enum First {
-    Is(Setting),
-    Bad,
-}
-
-pub fn first_line(s: &[u8]) -> First
-    ensures { setting_of result ≡ rule.first_line s.now }
+// The first line: a clock and an offset. None is "a bad first line".
+pub fn first_line(s: &[u8]) -> Option<Setting>
+    ensures { read_some (λ set. set) result ≡ rule.first_line s.now }
 {
     if fields::LONGEST < s.len() {
-        return First::Bad;
+        return None;
     }
-    let tab = fields::field_end(s, 0);
-    if s.len() <= tab {
-        return First::Bad;
+    let (clock, rest) = text::cut(s, TAB);
+    let (offset, third) = text::cut(rest?, TAB);
+    match third {
+        None => clock::setting(clock, offset),
+        Some(_) => None,
     }
-    let from = tab + 1;
-    if fields::field_end(s, from) < s.len() {
-        return First::Bad;
-    }
-    clock::setting(&s[..tab], &s[from..])
 }

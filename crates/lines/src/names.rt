@@ -1,7 +1,8 @@
-// The names of the functions: each is classified once, by its first letter.
-ghost use Rattle.std.specs.Prelude.{if◌then◌else◌, ◌≡◌};
+// The names of the functions.
+ghost use Rattle.std.specs.Prelude.{◌≡◌};
+ghost use Rattle.rules.specs.Basics.{read_some};
 ghost use Rattle.rules.specs.Program as rule;
-ghost use Rattle.lines.specs.Names.{name_of, name_d, name_t};
+ghost use Rattle.lines.specs.Names.{named};
 
 use rules::Function;
 
@@ -11,63 +12,34 @@ pub enum Name {
     General(Function),
     Strftime,
     Timediff,
-    Unknown,
 }
 
-pub fn name_of(s: &[u8]) -> Name
-    ensures { result ≡ name_of s.now }
-{
-    if s.len() == 0 {
-        return Name::Unknown;
-    }
-    match s[0] {
-        b'd' => name_d(s),
-        b'j' => only(s, b"julianday", Name::General(Function::Julianday)),
-        b's' => only(s, b"strftime", Name::Strftime),
-        b't' => name_t(s),
-        b'u' => only(s, b"unixepoch", Name::General(Function::Unixepoch)),
-        _ => Name::Unknown,
-    }
-}
-
-// The one name that begins so.
-fn only(s: &[u8], w: &[u8], name: Name) -> Name
-    ensures { result ≡ (if rule.same w.now s.now then name else Name.Unknown) }
-{
-    if same(s, w) { name } else { Name::Unknown }
-}
-
-fn name_d(s: &[u8]) -> Name
-    ensures { result ≡ name_d s.now }
+#[tactic(auto, unfolding(crate::specs::Names::named, rules::specs::Program::general))]
+pub fn name_of(s: &[u8]) -> Option<Name>
+    ensures { read_some (λ n. n) result ≡ named s.now }
 {
     if same(s, b"date") {
-        return Name::General(Function::Date);
+        Some(Name::General(Function::Date))
+    } else if same(s, b"time") {
+        Some(Name::General(Function::Time))
+    } else if same(s, b"datetime") {
+        Some(Name::General(Function::Datetime))
+    } else if same(s, b"julianday") {
+        Some(Name::General(Function::Julianday))
+    } else if same(s, b"unixepoch") {
+        Some(Name::General(Function::Unixepoch))
+    } else if same(s, b"strftime") {
+        Some(Name::Strftime)
+    } else if same(s, b"timediff") {
+        Some(Name::Timediff)
+    } else {
+        None
     }
-    only(s, b"datetime", Name::General(Function::Datetime))
-}
-
-fn name_t(s: &[u8]) -> Name
-    ensures { result ≡ name_t s.now }
-{
-    if same(s, b"time") {
-        return Name::General(Function::Time);
-    }
-    only(s, b"timediff", Name::Timediff)
 }
 
 // Whether s is w, byte for byte.
 fn same(s: &[u8], w: &[u8]) -> bool
     ensures { result ≡ rule.same w.now s.now }
 {
-    if s.len() != w.len() {
-        return false;
-    }
-    let mut i = 0;
-    while i < w.len() {
-        if w[i] != s[i] {
-            return false;
-        }
-        i += 1;
-    }
-    true
+    w == s
 }

@@ -5,6 +5,7 @@ ghost use Rattle.std.specs.Prelude.{◌≤◌, ◌<◌, IfSome};
 
 use moment::{Clock, Offset};
 use std::io::{Read, Write};
+use std::num::f64_from_bits_with_nan;
 
 // Calls `row` with each line of the input, until that ends or can't be read. A line has its newline, and what its room doesn't hold is
 // dropped: its last bytes, and its newline too. What stands after the last newline is no line.
@@ -34,6 +35,15 @@ pub fn each_line<R: Read, F: FnMut(&mut [u8])>(input: &mut R, room: &mut [u8], m
 // A line without its newline.
 pub fn content(line: &[u8]) -> &[u8] {
     line.strip_suffix(b"\n").unwrap_or(line)
+}
+
+// Tabs and the newline become the zero bytes that end a field.
+pub fn end_fields(line: &mut [u8]) {
+    for b in line {
+        if *b == b'\t' || *b == b'\n' {
+            *b = 0;
+        }
+    }
 }
 
 // Writes a text. What can't be written is left out: the stored answers show that.
@@ -84,7 +94,16 @@ fn number(s: &[u8], limit: u64) -> u64
     n
 }
 
-// ---- hexadecimal digits
+// ---- an f64, as the 16 hexadecimal digits of its bits
+
+// A NaN is written `nan`.
+pub fn float<W: Write>(out: &mut W, x: f64) {
+    if x.is_nan() {
+        say(out, b"nan");
+    } else {
+        let _ = streams::print_hex(out, x.to_bits(), 16);
+    }
+}
 
 // Small letters alone.
 pub fn hex_digit(b: u8) -> Option<u8>
@@ -97,8 +116,10 @@ pub fn hex_digit(b: u8) -> Option<u8>
     }
 }
 
-// Of more than sixteen digits the last sixteen. Any other byte counts as a zero.
-pub fn bits_of(s: &[u8]) -> u64 {
-    s.iter()
-        .fold(0, |bits, b| bits << 4 | hex_digit(*b).unwrap_or(0) as u64)
+// The f64 whose bits the digits write, the last sixteen where there are more. Any other byte counts as a zero.
+pub fn float_of(s: &[u8]) -> f64 {
+    let bits = s
+        .iter()
+        .fold(0, |bits, b| bits << 4 | hex_digit(*b).unwrap_or(0) as u64);
+    f64_from_bits_with_nan(bits)
 }

@@ -10,7 +10,6 @@
 #![tactic(auto)]
 
 use std::io::{Stdout, Write};
-use std::num::f64_from_bits_with_nan;
 
 fn main(rt: HostRuntime) {
     let mut stdout = rt.stdout();
@@ -25,8 +24,8 @@ fn row(stdout: &mut Stdout, line: &[u8]) {
     if let (kind, Some(value)) = text::cut(line, b'\t') {
         match kind.first() {
             Some(b'd') => decimal_row(stdout, value),
-            Some(b't') => three(stdout, float_of(value)),
-            Some(b'n') => nine(stdout, float_of(value)),
+            Some(b't') => three(stdout, rows::float_of(value)),
+            Some(b'n') => nine(stdout, rows::float_of(value)),
             _ => rows::say(stdout, b"?"),
         }
     }
@@ -35,22 +34,10 @@ fn row(stdout: &mut Stdout, line: &[u8]) {
 
 fn decimal_row(stdout: &mut Stdout, text: &[u8]) {
     match decimal::decimal(text) {
-        decimal::Number::NotOne => rows::say(stdout, b"not"),
-        decimal::Number::Over => rows::say(stdout, b"over"),
-        decimal::Number::Is(x) => bit_pattern(stdout, x),
+        Ok(Some(x)) => rows::float(stdout, x),
+        Ok(None) => rows::say(stdout, b"not"),
+        Err(_) => rows::say(stdout, b"over"),
     }
-}
-
-fn bit_pattern(stdout: &mut Stdout, x: f64) {
-    if x.is_nan() {
-        rows::say(stdout, b"nan");
-    } else {
-        let _ = streams::print_hex(stdout, x.to_bits(), 16);
-    }
-}
-
-fn float_of(value: &[u8]) -> f64 {
-    f64_from_bits_with_nan(rows::bits_of(value))
 }
 
 fn three(stdout: &mut Stdout, x: f64) {

@@ -22,30 +22,34 @@ use Rattle.writing.proofs.Texts.{date_parts, clock_parts}
 pub length_two : (v : ℕ) → v < 100 → length (wide 2 v) ≡ 2
 length_two v h = length_exact 1 v h
 
-module _ (p : Moment) (h : Printable p) where
-  pub length_date : (k : ℕ) → length (date_of k p) ≡ length (signed_year k p.year) + 6
-  length_date k =
+module _ (p : Moment) where
+  pub length_date : (k : ℕ) → p.month < 100 → p.day < 100 → length (date_of k p) ≡ length (signed_year k p.year) + 6
+  length_date k m d =
       let year = signed_year k p.year in
-      omega (arith, ap length (date_parts p k), length-append (year ++ (45 ∷ wide 2 p.month)) (45 ∷ wide 2 p.day), length-append year (45 ∷ wide 2 p.month), length_two p.month (field.month p h), length_two p.day (field.day p h))
+      omega (arith, ap length (date_parts p k), length-append (year ++ (45 ∷ wide 2 p.month)) (45 ∷ wide 2 p.day), length-append year (45 ∷ wide 2 p.month), length_two p.month m, length_two p.day d)
 
-  pub length_clock : length (hour_minute p) ≡ 5
-  length_clock = omega (arith, ap length (clock_parts p), length-append (wide 2 p.hour) (58 ∷ wide 2 p.minute), length_two p.hour (field.hour p h), length_two p.minute (field.minute p h))
+  pub length_clock : p.hour < 100 → p.minute < 100 → length (hour_minute p) ≡ 5
+  length_clock h m = omega (arith, ap length (clock_parts p), length-append (wide 2 p.hour) (58 ∷ wide 2 p.minute), length_two p.hour h, length_two p.minute m)
 
-  pub length_whole : length (whole_time p) ≡ 8
-  length_whole =
-      omega (arith, length-append (hour_minute p ++ (58 ∷ [])) (second_text p.second), length-append (hour_minute p) (58 ∷ []), length_clock, length_exact 1 (whole p.second) (omega (arith, minute_whole p.second (field.second p h))))
+  module _ (h : Printable p) where
+    clock : length (hour_minute p) ≡ 5
+    clock = length_clock (field.hour p h) (field.minute p h)
 
-  pub length_decimal : length (decimal_time p) ≡ 12
-  length_decimal =
-      omega (arith, length-append (hour_minute p ++ (58 ∷ [])) (three_decimals 2 p.second), length-append (hour_minute p) (58 ∷ []), length_clock, length_second p.second (field.second p h))
+    pub length_whole : length (whole_time p) ≡ 8
+    length_whole =
+        omega (arith, length-append (hour_minute p ++ (58 ∷ [])) (second_text p.second), length-append (hour_minute p) (58 ∷ []), clock, length_exact 1 (whole p.second) (omega (arith, minute_whole p.second (field.second p h))))
 
-  pub length_unix : length (unix_text p) ≤ 17
-  unfolding unix_text
-  length_unix = go p.subsec
-    where
-      go : (b : Bool) → length (if b then unix_decimals p.ms else integer_text (unix_seconds p.ms)) ≤ 17
-      go true = length_decimals p.ms h.range.from h.range.to
-      go false = omega (arith, length_seconds p.ms h.range.from h.range.to)
+    pub length_decimal : length (decimal_time p) ≡ 12
+    length_decimal =
+        omega (arith, length-append (hour_minute p ++ (58 ∷ [])) (three_decimals 2 p.second), length-append (hour_minute p) (58 ∷ []), clock, length_second p.second (field.second p h))
+
+    pub length_unix : length (unix_text p) ≤ 17
+    unfolding unix_text
+    length_unix = go p.subsec
+      where
+        go : (b : Bool) → length (if b then unix_decimals p.ms else integer_text (unix_seconds p.ms)) ≤ 17
+        go true = length_decimals p.ms h.range.from h.range.to
+        go false = omega (arith, length_seconds p.ms h.range.from h.range.to)
 
 pub length_half : (am pm : List ℕ) (hour : ℕ) → length am ≡ 2 → length pm ≡ 2 → length (half am pm hour) ≡ 2
 length_half am pm hour a b = go (leb 12 hour)

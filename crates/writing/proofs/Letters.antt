@@ -92,7 +92,7 @@ module _ (p : Moment) (h : Printable p) where
   year_few = length_year 3 p.year (omega arith) h.years.from h.years.to
 
   date_few : length (date_of 3 p) ≤ 11
-  date_few = omega (arith, year_few, length_date p h 3)
+  date_few = omega (arith, year_few, length_date p 3 (field.month p h) (field.day p h))
 
   aligned : Aligned p letters mosts
   unfolding letters mosts since_monday since_sunday
@@ -117,7 +117,7 @@ module _ (p : Moment) (h : Printable p) where
       then row tt tt (two 77 p.minute minute)
       then row tt tt (always 112 2 (length_half (65 ∷ 77 ∷ []) (80 ∷ 77 ∷ []) p.hour refl refl))
       then row tt tt (always 80 2 (length_half (97 ∷ 109 ∷ []) (112 ∷ 109 ∷ []) p.hour refl refl))
-      then row tt tt (always 82 5 (length_clock p h))
+      then row tt tt (always 82 5 (length_clock p hour minute))
       then row tt tt (sometimes 115 17 tt (length_unix p h))
       then row tt tt (two 83 (whole p.second) (omega (arith, minute_whole p.second second)))
       then row tt tt (always 84 8 (length_whole p h))

@@ -12,4 +12,4 @@ pub overflow_add-result : goal.overflow_add-result
 overflow_add-result c = omega (arith, c.year_length.ensures, length_year 4 c.args.p.year)
 
 pub returns : goal.returns
-returns c = let p = held c.args.p in omega (arith, c.year_length.ensures, length_year 4 c.args.p.year, ap length (date_is p), length_date p c.requires 4)
+returns c = let p = held c.args.p in omega (arith, c.year_length.ensures, length_year 4 c.args.p.year, ap length (date_is p), length_date p 4)

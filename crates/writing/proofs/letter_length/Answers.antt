@@ -24,7 +24,7 @@ overflow_add-result c = omega (arith, c.year_length.ensures, length_year 3 c.arg
 
 pub returns-in-70 : goal.returns-in-70
 unfolding letter letters writer
-returns-in-70 c = answer (held c.args.p) c.requires _ 70 _ c.in-70.is (omega (arith, c.year_length.ensures, length_date (held c.args.p) c.requires 3))
+returns-in-70 c = answer (held c.args.p) c.requires _ 70 _ c.in-70.is (omega (arith, c.year_length.ensures, length_date (held c.args.p) 3))
 
 pub returns-in-103 : goal.returns-in-103
 unfolding letter letters writer

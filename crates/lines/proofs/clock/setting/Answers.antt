@@ -1,24 +1,19 @@
 -- `lines::clock::setting` meets its contract. Assumes nothing.
-use mathlib.Core.Path.{sym, ap, ◌∙◌}
-use lib.IntN.{ℤ}
+use mathlib.Core.Path.{refl}
 use mir.Syntax.{w64}
-use mir.Facts.{to_z-of_z}
 use mir.Val.{SFits}
-use Rattle.rules.specs.Basics.{got}
-use Rattle.text.proofs.Reading.{bind_got, bind_other}
-use Rattle.lines.specs.First.{number_of, offset_of}
+use mir.ValLaws.{to_z-of_z}
 use Rattle.lines.proofs.Numbers.{two_fields_lem}
 use borrow.Author.Rules.{rules}
 use Rattle.lines.proofs.clock.setting.Goals as goal
 
-pub returns-in_default : goal.returns-in_default
-returns-in_default c = sym (two_fields_lem _ _ ∙ bind_other _ (sym c.number_of.ensures.result_value ∙ ap number_of c.in_default.is))
+pub returns-in_err-number_of : goal.returns-in_err-number_of
+returns-in_err-number_of c = rw (c.from_residual.ensures, two_fields_lem c.args.clock.now c.args.offset.now, ← c.number_of.ensures.value, c.in_err-number_of.was) refl
 
-pub returns-in_default-offset_of : goal.returns-in_default-offset_of
-returns-in_default-offset_of c = sym (two_fields_lem _ _ ∙ bind_got _ (sym c.number_of.ensures.result_value ∙ ap number_of c.in-Is.is) ∙ bind_other _ (sym c.offset_of.ensures ∙ ap offset_of c.in_default-offset_of.is))
+pub returns-in_err-offset_of : goal.returns-in_err-offset_of
+returns-in_err-offset_of c = rw (c.from_residual-in_err-offset_of.ensures, two_fields_lem c.args.clock.now c.args.offset.now, ← c.number_of.ensures.value, c.in_ok-number_of.was, ← c.offset_of.ensures, c.in_err-offset_of.was) refl
 
 pub returns : goal.returns
 returns c =
-    let f : SFits w64 c.in-Is-offset_of.seconds = search rules in
-    ap (λ (z : ℤ). got (record { clock = c.in-Is.ms; offset = z })) (to_z-of_z f)
-    ∙ sym (two_fields_lem _ _ ∙ bind_got _ (sym c.number_of.ensures.result_value ∙ ap number_of c.in-Is.is) ∙ bind_got _ (sym c.offset_of.ensures ∙ ap offset_of c.in-Is-offset_of.is))
+    let f : SFits w64 c.in_ok-offset_of.field-0 = search rules in
+    rw (two_fields_lem c.args.clock.now c.args.offset.now, ← c.number_of.ensures.value, c.in_ok-number_of.was, ← c.offset_of.ensures, c.in_ok-offset_of.was, to_z-of_z w64 c.in_ok-offset_of.field-0 f) refl

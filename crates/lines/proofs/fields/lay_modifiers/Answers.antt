@@ -1,17 +1,16 @@
 -- `lines::fields::lay_modifiers` meets its contract. Assumes nothing.
-use mathlib.Core.Path.{refl, sym, ap}
+use mathlib.Core.Path.{refl}
 use native.Mathlib.Omega.{arith}
 use Rattle.rules.specs.Program.{buffered}
-use Rattle.digits.proofs.Buffer.{laid_as}
-use Rattle.lines.proofs.Parts.{after_end, after_tab}
+use Rattle.lines.proofs.Parts.{lay_on, lay_all}
 use Rattle.lines.proofs.fields.lay_modifiers.Goals as goal
 
-pub returns-then-s-end : goal.returns-then-s-end
+pub returns-in_default : goal.returns-in_default
 unfolding buffered
-returns-then-s-end c = rw (after_end _ _ c.if-s-end.true) (record { place = refl; bytes = refl })
+returns-in_default c = rw c.in_default.is (record { place = refl; bytes = refl })
 
-pub lay_from-requires : goal.lay_from-requires
-lay_from-requires c = record { from_in = omega arith; has_room = omega arith }
+pub loop-i-preserved : goal.loop-i-preserved
+loop-i-preserved c = rw c.loop-i.invariant (lay_on _ _ _ _ c.loop-i-test.true c.zeroed.ensures)
 
 pub returns : goal.returns
-returns c = laid_as (ap buffered (sym (after_tab _ _ c.if-s-end.false))) c.lay_from.ensures
+returns c = rw (c.in-Some.is, c.loop-i.invariant) (lay_all _ _ _ c.loop-i-test.false)
