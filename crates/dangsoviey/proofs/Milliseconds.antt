@@ -27,10 +27,6 @@ use Rattle.moment.proofs.Steps.{in_range_lem}
 use Rattle.dangsoviey.specs.Milliseconds.{milliseconds, instant_of, stamped, stamp}
 
 -- ---- a stamp
-pub stamp_near : (z : ℤ) → InRange (instant_of z) → nat_abs z ≤ step_most
-stamp_near (pos n) r = omega (arith, r.to)
-stamp_near (negsuc n) r = omega (arith, r.from)
-
 -- what is then written
 pub stamp_text : (z : ℤ) → in_range (instant_of z) ≡ true → text (date_text (stamped z) ++ ascii " " ++ time_text (stamped z)) ≡ stamp z
 unfolding stamp

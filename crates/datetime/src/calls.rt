@@ -11,7 +11,7 @@ ghost use Rattle.rules.specs.declared.Function.{Function};
 ghost use Rattle.calendar.specs.Ranges.{InRange};
 ghost use Rattle.moment.specs.Held.{held};
 ghost use Rattle.moment.specs.Ranges.{read_of, Lands};
-ghost use Rattle.modifiers.specs.Buffer.{allowed_if};
+ghost use Rattle.modifiers.specs.Buffer.{allowed_by};
 ghost use Rattle.datetime.specs.Allowed.{both_allowed, SettingAllowed};
 ghost use Rattle.datetime.specs.Instants.{ranged_both, instants, present_of};
 ghost use Rattle.datetime.specs.Opened.{Ready};
@@ -23,7 +23,7 @@ use rules::{Given, Refusal, Setting};
 // 2: a text "has over" so many bytes; else 3: it "holds a byte above 127".
 #[tactic(auto, unfolding(rules::specs::Calls::high))]
 fn text_allowed(s: &[u8], most: usize) -> Result<(), Refusal>
-    ensures { result ≡ allowed_if (over most s.now) (high s.now) }
+    ensures { result ≡ allowed_by (over most s.now) (high s.now) }
 {
     if s.len() > most {
         return Err(Refusal::Shape);
@@ -37,7 +37,7 @@ fn text_allowed(s: &[u8], most: usize) -> Result<(), Refusal>
 // And a time value. What stands beside a value that is no bytes is not looked at.
 #[tactic(auto, unfolding(rules::specs::Calls::high, rules::specs::Basics::every))]
 fn value_allowed(given: Given, s: &[u8]) -> Result<(), Refusal>
-    ensures { result ≡ allowed_if (over 255 (bytes_of (value_of given s.now))) (high (bytes_of (value_of given s.now))) }
+    ensures { result ≡ allowed_by (over 255 (bytes_of (value_of given s.now))) (high (bytes_of (value_of given s.now))) }
 {
     match given {
         Given::Bytes => text_allowed(s, 255),
@@ -56,9 +56,9 @@ fn both_allowed(a: Result<(), Refusal>, b: Result<(), Refusal>) -> Result<(), Re
 }
 
 // The texts of a call, "whether used or not".
-#[tactic(auto, using(crate::proofs::Allowed::both_allowed_if), unfolding(rules::specs::Calls::bad_shape, rules::specs::Calls::bad_bytes))]
+#[tactic(auto, using(crate::proofs::Allowed::both_allowed_by), unfolding(rules::specs::Calls::bad_shape, rules::specs::Calls::bad_bytes))]
 fn texts_allowed(format: &[u8], given: Given, value: &[u8], modifiers: &[u8]) -> Result<(), Refusal>
-    ensures { result ≡ allowed_if (bad_shape (strftime format.now (value_of given value.now) modifiers.now)) (bad_bytes (strftime format.now (value_of given value.now) modifiers.now)) }
+    ensures { result ≡ allowed_by (bad_shape (strftime format.now (value_of given value.now) modifiers.now)) (bad_bytes (strftime format.now (value_of given value.now) modifiers.now)) }
 {
     let others = both_allowed(value_allowed(given, value), buffer::allowed(modifiers));
     both_allowed(text_allowed(format, 1024), others)
