@@ -18,7 +18,7 @@ use moment::Moment;
 use rules::{Answer, Unanswered};
 
 // 7: "the answer is longer than the buffer; the length needed comes back with it"
-fn has_room(room: usize, length: usize) -> Result<(), Unanswered>
+pub fn has_room(room: usize, length: usize) -> Result<(), Unanswered>
     ensures { MatchResult result (λ _. length ≤ room) (λ e. (room < length) × (e ≡ Unanswered.NoRoom length)) }
 {
     if room < length {

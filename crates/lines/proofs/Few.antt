@@ -26,7 +26,7 @@ use Rattle.calendar.proofs.Counting.{month_day}
 use Rattle.calendar.proofs.Instants.{date_of_lem, time_high}
 use Rattle.moment.proofs.Branches.{either}
 use Rattle.moment.proofs.Steps.{count_cases, date_cases, time_cases}
-use Rattle.text.proofs.Digits.{digits_known}
+use Rattle.text.proofs.Numbers.{digits_known}
 use Rattle.text.proofs.Tests.{and_right}
 
 -- ---- what holds of whatever is read

@@ -1,6 +1,6 @@
 -- What comes of a call: a number needs no room, and none is a NaN. Assumes nothing.
 use Prim.Native.Nat.{ℕ, ◌-◌, ◌≤◌}
-use Rattle.std.specs.Prelude.{if◌then◌else◌}
+use Rattle.std.specs.Prelude.{if◌then◌else◌, Result, Ok, Err}
 use mathlib.Core.Bool.{Bool, true, false, not, ◌&&◌}
 use mathlib.Core.Path.{◌≡◌, refl}
 use mathlib.Core.List.{List}
@@ -20,6 +20,7 @@ use Rattle.rules.specs.Calls as calls
 use Rattle.rules.specs.Reading.{time_value}
 use Rattle.rules.specs.Writing.{formatted, unix_real, unix_seconds, julian_real}
 use Rattle.rules.specs.declared.Answer.{Answer}
+use Rattle.rules.specs.declared.Unanswered.{Unanswered}
 use Rattle.rules.specs.declared.Function.{Function}
 use Rattle.rules.specs.declared.Refusal.{Refusal}
 use Rattle.rules.specs.declared.Setting.{Setting}
@@ -56,14 +57,14 @@ Textless (integer n) = Unit
 Textless (real x) = Unit
 Textless (refused x) = Unit
 
-textless_gives : (o : Outcome) (old : List ℕ) {r : Answer} → Textless o → r ≡ answered o 0 → Gives o old old r
+textless_gives : (o : Outcome) (old : List ℕ) {r : Result Answer Unanswered} → Textless o → r ≡ answered o 0 → Gives o old old r
 unfolding answered after
 textless_gives (text s) old t e = absurd t
 textless_gives (integer n) old t e = record { is = e; bytes = refl }
 textless_gives (real x) old t e = record { is = e; bytes = refl }
 textless_gives (refused x) old t e = record { is = e; bytes = refl }
 
-module _ (set : Setting) (v : Value) (m : List ℕ) (old : List ℕ) {r : Answer} where
+module _ (set : Setting) (v : Value) (m : List ℕ) (old : List ℕ) {r : Result Answer Unanswered} where
   -- as a function that lends no buffer says it
   pub julianday_gives : r ≡ answered (answer set (call Function.Julianday v m)) 0 → Gives (answer set (call Function.Julianday v m)) old old r
   unfolding reading outcome_of
@@ -148,14 +149,14 @@ fine_sound : (o : Outcome) (room : ℕ) → Fine o → Sound (answered o room)
 unfolding answered
 fine_sound (text s) room f = pick (leb (length s) room)
   where
-    pick : (t : Bool) → Sound (if t then Answer.Text (length s) else Answer.NoRoom (length s))
+    pick : (t : Bool) → Sound (if t then Ok (Answer.Text (length s)) else Err (Unanswered.NoRoom (length s)))
     pick true = tt
     pick false = tt
 fine_sound (integer n) room f = tt
 fine_sound (real x) room f = f
 fine_sound (refused x) room f = tt
 
-pub sound : (set : Setting) (r : Read Call) {a : Answer} (room : ℕ) → a ≡ answered (outcome set r) room → Sound a
+pub sound : (set : Setting) (r : Read Call) {a : Result Answer Unanswered} (room : ℕ) → a ≡ answered (outcome set r) room → Sound a
 unfolding outcome
 sound set r room e = rw e (fine_sound (outcome set r) room (go r))
   where

@@ -22,7 +22,7 @@ use Rattle.rules.specs.Functions.{present, ranged, moment_of, renewed, outcome_o
 use Rattle.rules.specs.Moments.{Moment, fill}
 use Rattle.rules.specs.Program.{line_call, shown, line}
 use Rattle.rules.specs.Reading.{time_value}
-use Rattle.rules.specs.Writing.{width, wide, places, spaced, integer_text, signed_year, year_short, three_decimals, date_text, time_text, unix_seconds, unix_real, unix_text, julian_real, julian_text, julian_letter, dial, week, letters, writer, letter, before, formatted, shift_text, forward, backward, difference}
+use Rattle.rules.specs.Writing.{width, wide, places, spaced, integer_text, signed_year, hour_minute, year_short, three_decimals, date_text, time_text, unix_seconds, unix_real, unix_text, julian_real, julian_text, julian_letter, dial, week, letters, writer, letter, before, formatted, shift_text, forward, backward, difference}
 use Rattle.rules.specs.declared.Function.{Function}
 use Rattle.rules.specs.declared.Refusal.{Refusal}
 use Rattle.rules.specs.declared.Setting.{Setting}
@@ -31,7 +31,7 @@ use Rattle.digits.proofs.Floats.{three_is}
 use Rattle.digits.proofs.Hex.{length_hex}
 use Rattle.digits.proofs.Lengths.{length_trim}
 use Rattle.moment.proofs.Branches.{never, either}
-use Rattle.writing.specs.Texts.{date_of, clock_of, whole_time, half}
+use Rattle.writing.specs.Texts.{date_of, whole_time, half}
 use Rattle.writing.proofs.Lengths.{length_date, length_clock, length_half}
 use Rattle.lines.proofs.Few.{Reads, then_reads, Rows, end, ◌then◌, Few, few_fill, few_moment}
 use Rattle.lines.proofs.Outcomes.{answer_holds, then_holds}
@@ -118,24 +118,24 @@ second x = omega (arith, three_most 2 x (omega arith))
 year_few : (y : ℕ) → length (signed_year 3 y) ≤ 32
 year_few y = omega (arith, year_most 3 y (omega arith))
 
-half_few : (am pm m h : ℕ) → length (half am pm m h) ≤ 32
-half_few am pm m h = omega (arith, length_half am pm m h)
+half_few : (am pm : List ℕ) (h : ℕ) → length am ≡ 2 → length pm ≡ 2 → length (half am pm h) ≤ 32
+half_few am pm h a b = omega (arith, length_half am pm h a b)
 
 percent : length (ascii "%") ≤ 32
 percent = omega arith
 
 -- those that join fields: F, R and T
 module _ (p : Moment) (h : Few p) where
-  date_few : length (date_of 3 p.year p.month p.day) ≤ 32
-  date_few = omega (arith, length_date 3 p.year p.month p.day h.months h.days, year_most 3 p.year (omega arith))
+  date_few : length (date_of 3 p) ≤ 32
+  date_few = omega (arith, length_date p 3 h.months h.days, year_most 3 p.year (omega arith))
 
-  clock_few : length (clock_of p.hour p.minute) ≤ 32
-  clock_few = omega (arith, length_clock p.hour p.minute h.hours h.minutes)
+  clock_few : length (hour_minute p) ≤ 32
+  clock_few = omega (arith, length_clock p h.hours h.minutes)
 
-  time_few : length (whole_time p.hour p.minute p.second) ≤ 32
+  time_few : length (whole_time p) ≤ 32
   time_few =
-      let c = clock_of p.hour p.minute in
-      omega (arith, length_clock p.hour p.minute h.hours h.minutes, length-append (c ++ (58 ∷ [])) (wide 2 (whole p.second)), length-append c (58 ∷ []), wide_most 2 (whole p.second) (omega arith))
+      let c = hour_minute p in
+      omega (arith, length_clock p h.hours h.minutes, length-append (c ++ (58 ∷ [])) (wide 2 (whole p.second)), length-append c (58 ∷ []), wide_most 2 (whole p.second) (omega arith))
 
   rows_most : Rows (Writes p) letters
   unfolding letters
@@ -154,8 +154,8 @@ module _ (p : Moment) (h : Few p) where
       then spaced_most (dial p.hour)
       then number 2 p.month tt
       then number 2 p.minute tt
-      then half_few 65 80 77 p.hour
-      then half_few 97 112 109 p.hour
+      then half_few (65 ∷ 77 ∷ []) (80 ∷ 77 ∷ []) p.hour refl refl
+      then half_few (97 ∷ 109 ∷ []) (112 ∷ 109 ∷ []) p.hour refl refl
       then clock_few
       then unix_most p
       then number 2 (whole p.second) tt

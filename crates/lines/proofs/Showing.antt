@@ -1,29 +1,21 @@
 -- Answers shown in the lent buffer. Assumes nothing.
-use Prim.Native.Nat.{ℕ, ◌+◌, ◌≤◌, ◌<◌}
-use Rattle.std.specs.Prelude.{if◌then◌else◌}
+use Prim.Native.Nat.{ℕ}
+use Rattle.std.specs.Prelude.{if◌then◌else◌, Result, Ok, Err}
 use mathlib.Core.Bool.{Bool, true, false}
 use mathlib.Core.Path.{◌≡◌, refl, ◌∙◌}
 use mathlib.Core.List.{List, ◌++◌}
-use native.Mathlib.Numerals.{add-one}
 use lib.Dec.{leb}
 use lib.IntN.{ℤ}
-use lib.ListN.{length, get_or, set, drop, drop_of_length-le}
-use lib.Seq.{sets, drop-cons}
+use lib.ListN.{length, drop}
 use Rattle.rules.specs.Calls.{Outcome, text, integer, real, refused, answered, after}
 use Rattle.rules.specs.Program.{shown}
 use Rattle.rules.specs.declared.Answer.{Answer}
+use Rattle.rules.specs.declared.Unanswered.{Unanswered}
 use Rattle.datetime.specs.Given.{Gives}
 use Rattle.lines.specs.Shown.{shown_answer, shown_after}
 
--- a text byte by byte: one step at a place, and its end
-pub text_on : (new s : List ℕ) (i : ℕ) → i < length s → sets new i (drop i s) ≡ sets (set new i (get_or s i 0)) (i + 1) (drop (i + 1) s)
-text_on new s i h = rw (add-one, drop-cons s i 0 h)
-
-pub text_end : (new s : List ℕ) (i : ℕ) → length s ≤ i → sets new i (drop i s) ≡ new
-text_end new s i h = rw (drop_of_length-le s h)
-
 -- an integer by another name
-pub integer_as : {z n : ℤ} {old new : List ℕ} {r : Answer} → z ≡ n → Gives (text (shown (integer z))) old new r → Gives (text (shown (integer n))) old new r
+pub integer_as : {z n : ℤ} {old new : List ℕ} {r : Result Answer Unanswered} → z ≡ n → Gives (text (shown (integer z))) old new r → Gives (text (shown (integer n))) old new r
 integer_as e g = rw e at g
 
 -- ---- an outcome's text is what its answer is shown as
@@ -31,7 +23,7 @@ pub shown_answer_lem : (o : Outcome) (room : ℕ) → shown_answer (answered o r
 unfolding answered shown
 shown_answer_lem (text s) room = go (leb (length s) room)
   where
-    go : (t : Bool) → shown_answer (if t then Answer.Text (length s) else Answer.NoRoom (length s)) room ≡ (if t then Answer.Text (length s) else Answer.NoRoom (length s))
+    go : (t : Bool) → shown_answer (if t then Ok (Answer.Text (length s)) else Err (Unanswered.NoRoom (length s))) room ≡ (if t then Ok (Answer.Text (length s)) else Err (Unanswered.NoRoom (length s)))
     go true = refl
     go false = refl
 shown_answer_lem (integer n) room = refl
@@ -42,7 +34,7 @@ pub shown_after_lem : (o : Outcome) (old : List ℕ) → shown_after (answered o
 unfolding answered after shown
 shown_after_lem (text s) old = go (leb (length s) (length old))
   where
-    go : (t : Bool) → shown_after (if t then Answer.Text (length s) else Answer.NoRoom (length s)) (if t then s ++ drop (length s) old else old) ≡ (if t then s ++ drop (length s) old else old)
+    go : (t : Bool) → shown_after (if t then Ok (Answer.Text (length s)) else Err (Unanswered.NoRoom (length s))) (if t then s ++ drop (length s) old else old) ≡ (if t then s ++ drop (length s) old else old)
     go true = refl
     go false = refl
 shown_after_lem (integer n) old = refl
@@ -50,6 +42,6 @@ shown_after_lem (real x) old = refl
 shown_after_lem (refused r) old = refl
 
 -- an answer was given, and then shown
-pub gives_shown : {o : Outcome} {old new shown' : List ℕ} {a r : Answer} → Gives o old new a → length new ≡ length old → r ≡ shown_answer a (length new) → shown' ≡ shown_after a new → (r ≡ answered (text (shown o)) (length old)) × (shown' ≡ after (text (shown o)) old)
+pub gives_shown : {o : Outcome} {old new shown' : List ℕ} {a r : Result Answer Unanswered} → Gives o old new a → length new ≡ length old → r ≡ shown_answer a (length new) → shown' ≡ shown_after a new → (r ≡ answered (text (shown o)) (length old)) × (shown' ≡ after (text (shown o)) old)
 gives_shown {o} {old} g e p q =
     (p ∙ rw (e, g.is) (shown_answer_lem o (length old)), q ∙ rw (g.is, g.bytes) (shown_after_lem o old))

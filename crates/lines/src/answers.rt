@@ -6,66 +6,60 @@ ghost use Rattle.rules.specs.Program.{shown};
 ghost use Rattle.datetime.specs.Given.{Gives};
 ghost use Rattle.lines.specs.Shown.{Sound, shown_answer, shown_after};
 
-use rules::{Answer, Refusal};
+use datetime::texts::has_room;
+use rules::{Answer, Refusal, Unanswered};
 
 // An answer as a text. A text stands in the buffer already, or there is no room for it.
-pub fn show(a: Answer, out: &mut [u8]) -> Answer
+pub fn show(a: Result<Answer, Unanswered>, out: &mut [u8]) -> Result<Answer, Unanswered>
     requires { Sound a }
     ensures value { result ≡ shown_answer a (length out.old) }
     ensures out_after { out.new ≡ shown_after a out.old }
 {
     match a {
-        Answer::Text(n) => Answer::Text(n),
-        Answer::NoRoom(n) => Answer::NoRoom(n),
-        Answer::Integer(n) => show_integer(n, out),
-        Answer::Real(x) => show_real(x, out),
-        Answer::Refused(r) => show_refusal(r, out),
+        Ok(Answer::Integer(n)) => show_integer(n, out),
+        Ok(Answer::Real(x)) => show_real(x, out),
+        Err(Unanswered::Refused(r)) => show_text(words(r), out),
+        Ok(Answer::Text(n)) => Ok(Answer::Text(n)),
+        Err(Unanswered::NoRoom(n)) => Err(Unanswered::NoRoom(n)),
     }
 }
 
-fn show_integer(n: i64, out: &mut [u8]) -> Answer
+#[tactic(auto, using(datetime::proofs::Given::gives_text), unfolding(rules::specs::Calls::answered, rules::specs::Calls::after, rules::specs::Program::shown))]
+fn show_integer(n: i64, out: &mut [u8]) -> Result<Answer, Unanswered>
     ensures { Gives (text (shown (integer n))) out.old out.new result }
 {
-    let size = digits::integer_length(n);
-    if out.len() < size {
-        return Answer::NoRoom(size);
-    }
-    Answer::Text(digits::put_integer(out, 0, n))
+    has_room(out.len(), digits::integer_length(n))?;
+    Ok(Answer::Text(digits::put_integer(out, 0, n)))
 }
 
-fn show_real(x: f64, out: &mut [u8]) -> Answer
+#[tactic(auto, using(datetime::proofs::Given::gives_text, digits::proofs::Hex::length_hex), unfolding(rules::specs::Calls::answered, rules::specs::Calls::after, rules::specs::Program::shown))]
+fn show_real(x: f64, out: &mut [u8]) -> Result<Answer, Unanswered>
     requires { T (not (is_nan x)) }
     ensures { Gives (text (shown (real x))) out.old out.new result }
 {
-    if out.len() < 16 {
-        return Answer::NoRoom(16);
-    }
-    Answer::Text(digits::put_hex(out, 0, x))
+    has_room(out.len(), 16)?;
+    Ok(Answer::Text(digits::put_hex(out, 0, x)))
 }
 
-fn show_refusal(r: Refusal, out: &mut [u8]) -> Answer
-    ensures { Gives (text (shown (refused r))) out.old out.new result }
-{
-    match r {
-        Refusal::Null => show_text(b"null", out),
-        Refusal::Shape => show_text(b"refused 2", out),
-        Refusal::Bytes => show_text(b"refused 3", out),
-        Refusal::Setting => show_text(b"refused 4", out),
-        Refusal::Decimal => show_text(b"refused 5", out),
-        Refusal::Early => show_text(b"refused 6", out),
-    }
-}
-
-fn show_text(s: &[u8], out: &mut [u8]) -> Answer
+#[tactic(auto, using(datetime::proofs::Given::gives_text), unfolding(rules::specs::Calls::answered, rules::specs::Calls::after, rules::specs::Program::shown))]
+fn show_text(s: &[u8], out: &mut [u8]) -> Result<Answer, Unanswered>
     ensures { Gives (text s.now) out.old out.new result }
 {
-    if out.len() < s.len() {
-        return Answer::NoRoom(s.len());
+    has_room(out.len(), s.len())?;
+    Ok(Answer::Text(digits::put_bytes(out, 0, s)))
+}
+
+// The words of a refusal.
+#[tactic(auto, unfolding(rules::specs::Program::shown, rules::specs::Writing::wide, rules::specs::Writing::width, rules::specs::Writing::places))]
+fn words(r: Refusal) -> &'static [u8]
+    ensures { result.now ≡ shown (refused r) }
+{
+    match r {
+        Refusal::Null => b"null",
+        Refusal::Shape => b"refused 2",
+        Refusal::Bytes => b"refused 3",
+        Refusal::Setting => b"refused 4",
+        Refusal::Decimal => b"refused 5",
+        Refusal::Early => b"refused 6",
     }
-    let mut i = 0;
-    while i < s.len() {
-        out[i] = s[i];
-        i += 1;
-    }
-    Answer::Text(i)
 }

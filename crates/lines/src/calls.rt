@@ -1,56 +1,57 @@
 // The call that a line is, asked of crate datetime. "Its values are bytes."
-ghost use Rattle.std.specs.Prelude.{◌≡◌, ◌≤◌, length, drop};
+ghost use Rattle.std.specs.Prelude.{◌≡◌, ◌≤◌, length};
 ghost use Rattle.rules.specs.Calls as rule;
 ghost use Rattle.rules.specs.Functions.{answer};
 ghost use Rattle.rules.specs.Program.{line_call, general_call, strftime_call, timediff_call};
+ghost use Rattle.text.specs.Places.{rest_of};
 ghost use Rattle.datetime.specs.Given.{Gives};
-ghost use Rattle.lines.specs.Fields.{fields_after, laid_out, outcome};
+ghost use Rattle.lines.specs.Fields.{fields_of, following, laid_out, outcome};
 
-use crate::names::Name;
-use crate::{fields, names};
-use rules::{Answer, Function, Given, Refusal, Setting};
+use crate::fields::{self, next_field};
+use crate::names::{self, Name};
+use rules::{Answer, Function, Given, Refusal, Setting, Unanswered};
 
 // A line that is no call is refused, by 2: it is too long, holds a zero byte or names no function.
-pub fn asked(set: Setting, s: &[u8], room: &mut [u8], out: &mut [u8]) -> Answer
+pub fn asked(
+    set: Setting,
+    s: &[u8],
+    room: &mut [u8],
+    out: &mut [u8],
+) -> Result<Answer, Unanswered>
     requires { 8192 ≤ length room.old }
     ensures gives { Gives (outcome set (line_call s.now)) out.old out.new result }
     ensures room_after { room.new ≡ laid_out (line_call s.now) room.old }
 {
     if !fields::is_plain(s) {
-        return Answer::Refused(Refusal::Shape);
+        return Err(Unanswered::Refused(Refusal::Shape));
     }
-    let end = fields::field_end(s, 0);
-    match names::name_of(&s[..end]) {
-        Name::General(f) => general(set, f, s, end, room, out),
-        Name::Strftime => strftime(set, s, end, room, out),
-        Name::Timediff => timediff(set, s, end, out),
-        Name::Unknown => Answer::Refused(Refusal::Shape),
+    let (name, rest) = text::cut(s, fields::TAB);
+    match names::name_of(name) {
+        Some(Name::General(f)) => general(set, f, rest, room, out),
+        Some(Name::Strftime) => strftime(set, rest, room, out),
+        Some(Name::Timediff) => timediff(set, rest, out),
+        None => Err(Unanswered::Refused(Refusal::Shape)),
     }
 }
 
-// One of the five functions of a time value and its modifiers, whose name ends at `end`.
+// One of the five functions of a time value and its modifiers, by what follows its name.
 fn general(
     set: Setting,
     f: Function,
-    s: &[u8],
-    end: usize,
+    rest: Option<&[u8]>,
     room: &mut [u8],
     out: &mut [u8],
-) -> Answer
-    requires { length s.now ≤ length room.old }
-    ensures gives { Gives (outcome set (general_call (fields_after (drop end s.now)) f)) out.old out.new result }
-    ensures room_after { room.new ≡ laid_out (general_call (fields_after (drop end s.now)) f) room.old }
+) -> Result<Answer, Unanswered>
+    requires { following (rest_of rest) ≤ length room.old }
+    ensures gives { Gives (outcome set (general_call (fields_of (rest_of rest.entry)) f)) out.old out.new result }
+    ensures room_after { room.new ≡ laid_out (general_call (fields_of (rest_of rest.entry)) f) room.old }
 {
-    if s.len() <= end {
-        return Answer::Refused(Refusal::Shape);
-    }
-    let from = end + 1;
-    let to = fields::field_end(s, from);
-    let n = fields::lay_modifiers(s, to, room);
-    call(set, f, &s[from..to], &room[..n], out)
+    let (value, rest) = next_field(rest)?;
+    let n = fields::lay_modifiers(rest, room);
+    call(set, f, value, &room[..n], out)
 }
 
-fn call(set: Setting, f: Function, value: &[u8], modifiers: &[u8], out: &mut [u8]) -> Answer
+fn call(set: Setting, f: Function, value: &[u8], modifiers: &[u8], out: &mut [u8]) -> Result<Answer, Unanswered>
     ensures { Gives (answer set (rule.call f (rule.bytes value.now) modifiers.now)) out.old out.new result }
 {
     match f {
@@ -63,55 +64,30 @@ fn call(set: Setting, f: Function, value: &[u8], modifiers: &[u8], out: &mut [u8
 }
 
 // "strftime: format next".
-fn strftime(set: Setting, s: &[u8], end: usize, room: &mut [u8], out: &mut [u8]) -> Answer
-    requires { length s.now ≤ length room.old }
-    ensures gives { Gives (outcome set (strftime_call (fields_after (drop end s.now)))) out.old out.new result }
-    ensures room_after { room.new ≡ laid_out (strftime_call (fields_after (drop end s.now))) room.old }
+fn strftime(
+    set: Setting,
+    rest: Option<&[u8]>,
+    room: &mut [u8],
+    out: &mut [u8],
+) -> Result<Answer, Unanswered>
+    requires { following (rest_of rest) ≤ length room.old }
+    ensures gives { Gives (outcome set (strftime_call (fields_of (rest_of rest.entry)))) out.old out.new result }
+    ensures room_after { room.new ≡ laid_out (strftime_call (fields_of (rest_of rest.entry))) room.old }
 {
-    if s.len() <= end {
-        return Answer::Refused(Refusal::Shape);
-    }
-    let format = end + 1;
-    let tab = fields::field_end(s, format);
-    if s.len() <= tab {
-        return Answer::Refused(Refusal::Shape);
-    }
-    let from = tab + 1;
-    let to = fields::field_end(s, from);
-    let n = fields::lay_modifiers(s, to, room);
-    datetime::strftime(
-        set,
-        &s[format..tab],
-        Given::Bytes,
-        &s[from..to],
-        &room[..n],
-        out,
-    )
+    let (format, rest) = next_field(rest)?;
+    let (value, rest) = next_field(rest)?;
+    let n = fields::lay_modifiers(rest, room);
+    datetime::strftime(set, format, Given::Bytes, value, &room[..n], out)
 }
 
 // Two values. "A field after timediff's two" is one too many.
-fn timediff(set: Setting, s: &[u8], end: usize, out: &mut [u8]) -> Answer
-    ensures { Gives (outcome set (timediff_call (fields_after (drop end s.now)))) out.old out.new result }
+fn timediff(set: Setting, rest: Option<&[u8]>, out: &mut [u8]) -> Result<Answer, Unanswered>
+    ensures { Gives (outcome set (timediff_call (fields_of (rest_of rest.entry)))) out.old out.new result }
 {
-    if s.len() <= end {
-        return Answer::Refused(Refusal::Shape);
+    let (first, rest) = next_field(rest)?;
+    let (second, rest) = next_field(rest)?;
+    match rest {
+        None => datetime::timediff(set, Given::Bytes, first, Given::Bytes, second, out),
+        Some(_) => Err(Unanswered::Refused(Refusal::Shape)),
     }
-    let first = end + 1;
-    let tab = fields::field_end(s, first);
-    if s.len() <= tab {
-        return Answer::Refused(Refusal::Shape);
-    }
-    let second = tab + 1;
-    let to = fields::field_end(s, second);
-    if to < s.len() {
-        return Answer::Refused(Refusal::Shape);
-    }
-    datetime::timediff(
-        set,
-        Given::Bytes,
-        &s[first..tab],
-        Given::Bytes,
-        &s[second..to],
-        out,
-    )
 }

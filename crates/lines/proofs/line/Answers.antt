@@ -7,10 +7,12 @@ use Rattle.lines.proofs.Showing.{gives_shown}
 use Rattle.lines.proofs.line.Goals as goal
 
 pub show-requires : goal.show-requires
-show-requires c = let a = c.args in
-    sound a.set (line_call a.s.now) (length a.out.now) c.asked-a.ensures.gives.is
+show-requires c = sound c.args.set (line_call c.args.s.now) (length c.args.out.now) c.asked-a.ensures.gives.is
 
-pub returns : goal.returns
+pub returns-clause-value : goal.returns-clause-value
 unfolding line outcome
-returns c = let g = gives_shown c.asked-a.ensures.gives c.asked-a.auto.out c.show.ensures.value c.show.ensures.out_after in
-    record { value = g.0; out_after = g.1; room_after = c.asked-a.ensures.room_after }
+returns-clause-value c = (gives_shown c.asked-a.ensures.gives c.asked-a.auto.out c.show.ensures.value c.show.ensures.out_after).0
+
+pub returns-clause-out_after : goal.returns-clause-out_after
+unfolding line outcome
+returns-clause-out_after c = (gives_shown c.asked-a.ensures.gives c.asked-a.auto.out c.show.ensures.value c.show.ensures.out_after).1

@@ -1,42 +1,34 @@
 -- `lines::calls::asked` meets its contract. Assumes nothing.
-use mathlib.Core.Path.{sym, ◌∙◌}
-use native.Mathlib.Omega.{arith}
-use lib.Seq.{length-take-le}
-use lib.ListN.{drop}
-use Rattle.lines.specs.Fields.{fields_after}
-use Rattle.lines.proofs.Asking.{none_comes, comes_as, timediff_lays, plain_few, line_none, line_call_lem}
+use mathlib.Core.Path.{refl, sym, ◌∙◌}
+use Rattle.text.specs.Places.{rest_of}
+use Rattle.lines.specs.Fields.{fields_of}
+use Rattle.lines.proofs.Asking.{none_gives, timediff_lays, line_none, line_named}
 use Rattle.lines.proofs.calls.asked.Goals as goal
 
 pub returns-then-not-is_plain : goal.returns-then-not-is_plain
-returns-then-not-is_plain c = let a = c.args in
-    let g = none_comes a.set a.out.now a.room.now (line_none a.s.now (sym c.is_plain.ensures ∙ c.if-not-is_plain.true)) in
-    record { gives = g.gives; room_after = g.lays }
+returns-then-not-is_plain c =
+    let e = line_none c.args.s.now (sym c.is_plain.ensures ∙ c.if-not-is_plain.true) in
+    record { gives = none_gives _ e; room_after = rw e refl }
 
-pub slice_bounds-name_of-end : goal.slice_bounds-name_of-end
-slice_bounds-name_of-end c = sym (length-take-le _ _ (omega (arith, c.field_end-end.ensures.inside)))
+pub returns-in-Some-General : goal.returns-in-Some-General
+returns-in-Some-General c =
+    let e = line_named _ _ _ (sym c.is_plain.ensures ∙ c.if-not-is_plain.false) c.cut.ensures c.name_of.ensures in
+    let x = c.in-Some-General in
+    record { gives = rw (e, x.is, x.field-0-is) c.general.ensures.gives; room_after = rw (e, x.is, x.field-0-is) c.general.ensures.room_after }
 
-pub general-requires : goal.general-requires
-general-requires c = omega (arith, plain_few c.args.s.now (sym c.is_plain.ensures ∙ c.if-not-is_plain.false), c.requires)
+pub returns-in-Some-Strftime : goal.returns-in-Some-Strftime
+returns-in-Some-Strftime c =
+    let e = line_named _ _ _ (sym c.is_plain.ensures ∙ c.if-not-is_plain.false) c.cut.ensures c.name_of.ensures in
+    let x = c.in-Some-Strftime in
+    record { gives = rw (e, x.is, x.field-0-is) c.strftime.ensures.gives; room_after = rw (e, x.is, x.field-0-is) c.strftime.ensures.room_after }
 
-pub strftime-requires : goal.strftime-requires
-strftime-requires c = omega (arith, plain_few c.args.s.now (sym c.is_plain.ensures ∙ c.if-not-is_plain.false), c.requires)
+pub returns-in-Some-Timediff : goal.returns-in-Some-Timediff
+returns-in-Some-Timediff c =
+    let e = line_named _ _ _ (sym c.is_plain.ensures ∙ c.if-not-is_plain.false) c.cut.ensures c.name_of.ensures in
+    let x = c.in-Some-Timediff in
+    record { gives = rw (e, x.is, x.field-0-is) c.timediff.ensures; room_after = rw (e, x.is, x.field-0-is) (timediff_lays (fields_of (rest_of c.cut.result.1)) _) }
 
-pub returns-in-General : goal.returns-in-General
-returns-in-General c = let a = c.args in
-    let g = comes_as a.set a.out.now a.room.now (line_call_lem a.s.now _ _ (sym c.is_plain.ensures ∙ c.if-not-is_plain.false) c.field_end-end.ensures c.name_of.ensures c.in-General.is) (c.general.ensures.gives, c.general.ensures.room_after) in
-    record { gives = g.0; room_after = g.1 }
-
-pub returns-in-Strftime : goal.returns-in-Strftime
-returns-in-Strftime c = let a = c.args in
-    let g = comes_as a.set a.out.now a.room.now (line_call_lem a.s.now _ _ (sym c.is_plain.ensures ∙ c.if-not-is_plain.false) c.field_end-end.ensures c.name_of.ensures c.in-Strftime.is) (c.strftime.ensures.gives, c.strftime.ensures.room_after) in
-    record { gives = g.0; room_after = g.1 }
-
-pub returns-in-Timediff : goal.returns-in-Timediff
-returns-in-Timediff c = let a = c.args in
-    let g = comes_as a.set a.out.now a.room.now (line_call_lem a.s.now _ _ (sym c.is_plain.ensures ∙ c.if-not-is_plain.false) c.field_end-end.ensures c.name_of.ensures c.in-Timediff.is) (c.timediff.ensures, timediff_lays (fields_after (drop c.field_end-end.result a.s.now)) a.room.now) in
-    record { gives = g.0; room_after = g.1 }
-
-pub returns-in-Unknown : goal.returns-in-Unknown
-returns-in-Unknown c = let a = c.args in
-    let g = none_comes a.set a.out.now a.room.now (line_call_lem a.s.now _ _ (sym c.is_plain.ensures ∙ c.if-not-is_plain.false) c.field_end-end.ensures c.name_of.ensures c.in-Unknown.is) in
-    record { gives = g.gives; room_after = g.lays }
+pub returns-in-None : goal.returns-in-None
+returns-in-None c =
+    let e = line_named _ _ _ (sym c.is_plain.ensures ∙ c.if-not-is_plain.false) c.cut.ensures c.name_of.ensures in
+    record { gives = none_gives _ (e ∙ rw c.in-None.is); room_after = rw (e, c.in-None.is) refl }

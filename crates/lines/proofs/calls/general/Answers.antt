@@ -1,28 +1,28 @@
 -- `lines::calls::general` meets its contract. Assumes nothing.
 use Prim.Native.Nat.{ℕ}
 use mathlib.Core.List.{List}
-use mathlib.Core.Path.{sym, ap}
+use mathlib.Core.Path.{refl, sym, ap, ◌∙◌}
+use native.Mathlib.Nat.{le_trans}
 use lib.Seq.{length-take-le}
+use Rattle.std.specs.Prelude.{Err}
+use Rattle.std.proofs.lemmas.Result.{err_from_is_err_and}
 use Rattle.rules.specs.Program.{general_call}
-use Rattle.lines.proofs.Parts.{after_end}
-use Rattle.lines.proofs.Asking.{laid_inside, laid_are, none_comes, general_comes, next_field}
+use Rattle.text.specs.Places.{rest_of}
+use Rattle.lines.proofs.Asking.{laid_inside, laid_are, missing_gives, general_gives}
 use Rattle.lines.proofs.calls.general.Goals as goal
 
-pub returns-then-s-end : goal.returns-then-s-end
-returns-then-s-end c = let a = c.args in
-    let g = none_comes a.set a.out.now a.room.now (ap (λ (fs : List (List ℕ)). general_call fs a.f) (after_end a.s.now a.end c.if-s-end.true)) in
-    record { gives = g.gives; room_after = g.lays }
+pub returns-in_err-value-clause-gives : goal.returns-in_err-value-clause-gives
+returns-in_err-value-clause-gives c =
+    let p = err_from_is_err_and c.from_residual.result c.from_residual.ensures.1 in
+    missing_gives _ (λ (fs : List (List ℕ)). general_call fs c.args.f) refl (rw c.in_err-value.was at c.next_field.ensures) (p.1 ∙ ap Err p.2)
+
+pub slice_bounds-call-end : goal.slice_bounds-call-end
+slice_bounds-call-end c = laid_inside _ (le_trans (rw c.in_ok-value.was at c.next_field.ensures).1 c.requires) c.lay_modifiers-n.ensures
 
 pub slice_bounds-call-end-2 : goal.slice_bounds-call-end-2
-slice_bounds-call-end-2 c = laid_inside c.args.s.now c.field_end-to.result c.requires c.lay_modifiers-n.ensures
+slice_bounds-call-end-2 c = sym (length-take-le _ _ (laid_inside _ (le_trans (rw c.in_ok-value.was at c.next_field.ensures).1 c.requires) c.lay_modifiers-n.ensures))
 
-pub slice_bounds-call-end-3 : goal.slice_bounds-call-end-3
-slice_bounds-call-end-3 c = sym (length-take-le _ _ (laid_inside c.args.s.now c.field_end-to.result c.requires c.lay_modifiers-n.ensures))
-
-pub returns : goal.returns
-returns c = let a = c.args in
-    let s = a.s.now in
-    let to = c.field_end-to.result in
-    let l = c.lay_modifiers-n.ensures in
-    let g = general_comes a.set _ _ _ (laid_are s to c.requires l) l a.f (next_field s a.end to c.if-s-end.false c.field_end-to.ensures) c.call.ensures in
-    record { gives = g.gives; room_after = g.lays }
+pub returns-clause-gives : goal.returns-clause-gives
+returns-clause-gives c =
+    let e = (rw c.in_ok-value.was at c.next_field.ensures) in
+    general_gives _ _ _ _ _ e.0 (laid_are _ (le_trans e.1 c.requires) c.lay_modifiers-n.ensures) c.call.ensures

@@ -5,6 +5,3 @@ use Rattle.lines.proofs.fields.next_field.Goals as goal
 
 pub returns-in-Some : goal.returns-in-Some
 returns-in-Some c = rw c.in-Some.is (cut_fields _ _ _ c.cut.ensures, cut_following _ _ _ c.cut.ensures)
-
-pub returns-in-None : goal.returns-in-None
-returns-in-None c = rw c.in-None.is (refl, refl)

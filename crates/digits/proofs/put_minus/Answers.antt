@@ -1,6 +1,0 @@
--- `digits::put_minus` meets its contract. Assumes nothing.
-use Rattle.digits.proofs.Buffer.{laid_then}
-use Rattle.digits.proofs.put_minus.Goals as goal
-
-pub returns : goal.returns
-returns c = laid_then c.put_byte-digits.ensures c.put_number.ensures
