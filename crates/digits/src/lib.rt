@@ -262,7 +262,7 @@ pub fn put_second_decimals(buf: &mut [u8], at: usize, second: f64) -> usize
 // The Unix epoch, as it is held.
 const UNIX_EPOCH: u64 = 9223582903614775808;
 
-// The seconds since the Unix epoch, as an f64, in thousandths and without their sign.
+// The seconds since the Unix epoch, as an f64, in thousandths and without their sign. The bounds are clauses, as in crate real.
 fn unix_thousandths(ms: u64) -> u64
     requires not_before { instant 0 ≤ ms }
     requires not_after { ms ≤ last }
