@@ -14,7 +14,7 @@
 // For days 0 to 5373811 the century is at most 147, b 36524, the year of the century 99, x 365.
 #![tactic(auto)]
 
-ghost use Rattle.std.specs.Prelude.{if◌then◌else◌, ◌≡◌, ◌+◌, ◌≤◌, ◌<◌};
+ghost use Rattle.std.specs.Prelude.{if◌then◌else◌, ◌≡◌, ◌+◌, ◌≤◌, ◌<◌, ◌↔◌, IsSome, IfSome};
 ghost use Rattle.rules.specs.Calendar as rule;
 ghost use Rattle.calendar.specs.Ranges.{last_day, MonthDay, Countable, InRange};
 
@@ -23,7 +23,12 @@ use rules::Ymd;
 // The milliseconds of a day.
 const DAY: u64 = 86400000;
 
-// The instant at which -4713-01-01 begins.
+// The millisecond 0 and the last.
+const ZERO: u64 = 9223372036854775808;
+
+const LAST: u64 = 9223836305915575807;
+
+// The millisecond at which -4713-01-01 begins.
 const START: u64 = 9223372008558775808;
 
 // The day -4713-11-24, a Monday.
@@ -40,6 +45,13 @@ const BEFORE: [[u16; 12]; 2] = [
     [0, 31, 59, 90, 120, 151, 181, 212, 243, 273, 304, 334],
     [0, 31, 60, 91, 121, 152, 182, 213, 244, 274, 305, 335],
 ];
+
+// A time from the millisecond 0 to the last.
+#[derive(Clone, Copy)]
+pub struct Instant {
+    pub ms: u64,
+    pub ghost in_range: { InRange ms },
+}
 
 // Whether a year is leap: "A year is leap if 4 divides it and 100 does not, or 400 does."
 #[tactic(auto, unfolding(rules::specs::Calendar::leap))]
@@ -111,16 +123,7 @@ pub fn midnight(date: Ymd) -> u64
     START + u64::from(days_to(date)) * DAY
 }
 
-// The days from -4713-01-01 to an instant: DAY_ZERO at the earliest.
-#[tactic(auto, using(crate::proofs::Instants::start_is), unfolding(rules::specs::Calendar::day_of))]
-pub fn day_of(ms: u64) -> u32
-    requires { InRange ms }
-    ensures { (result ≡ rule.day_of ms) × (327 ≤ result) × (result ≤ last_day) }
-{
-    ((ms - START) / DAY) as u32
-}
-
-// The milliseconds since midnight, for any instant. Before -4713-01-01, where no day is counted, the rules say 0.
+// The milliseconds since midnight, for any milliseconds. Before -4713-01-01, where no day is counted, the rules say 0.
 #[tactic(auto, using(crate::proofs::Instants::start_is), unfolding(rules::specs::Calendar::time_of_day))]
 pub fn time_of_day(ms: u64) -> u32
     ensures { (result ≡ rule.time_of_day ms) × (result < 86400000) }
@@ -128,47 +131,62 @@ pub fn time_of_day(ms: u64) -> u32
     (ms.saturating_sub(START) % DAY) as u32
 }
 
-// The date of an instant.
-#[tactic(auto, unfolding(rules::specs::Calendar::civil))]
-pub fn civil(ms: u64) -> Ymd
-    requires { InRange ms }
-    ensures { (result ≡ rule.civil ms) × Countable result.year result.month result.day }
-{
-    date_after(day_of(ms))
-}
+impl Instant {
+    pub fn new(ms: u64) -> Option<Instant>
+        ensures some { IsSome result ↔ InRange ms }
+        ensures value { IfSome result (λ at. at.ms ≡ ms) }
+    {
+        if ms < ZERO || LAST < ms {
+            return None;
+        }
+        Some(Instant { ms })
+    }
 
-// The days since Monday: 0 on Monday to 6 on Sunday.
-#[tactic(auto, using(crate::proofs::Instants::day_zero_lem), unfolding(rules::specs::Calendar::since_monday))]
-pub fn since_monday(ms: u64) -> u32
-    requires { InRange ms }
-    ensures { (result ≡ rule.since_monday ms) × (result ≤ 6) }
-{
-    (day_of(ms) - DAY_ZERO) % 7
-}
+    // The days from -4713-01-01 on: DAY_ZERO at the earliest.
+    #[tactic(auto, using(crate::proofs::Instants::start_is), unfolding(rules::specs::Calendar::day_of))]
+    pub fn day_of(self) -> u32
+        ensures { (result ≡ rule.day_of self.ms) × (327 ≤ result) × (result ≤ last_day) }
+    {
+        ((self.ms - START) / DAY) as u32
+    }
 
-// The days since Sunday: 0 on Sunday to 6 on Saturday.
-#[tactic(auto, using(crate::proofs::Instants::day_zero_lem), unfolding(rules::specs::Calendar::since_sunday))]
-pub fn since_sunday(ms: u64) -> u32
-    requires { InRange ms }
-    ensures { (result ≡ rule.since_sunday ms) × (result ≤ 6) }
-{
-    (day_of(ms) - DAY_ZERO + 1) % 7
-}
+    // The date.
+    #[tactic(auto, unfolding(rules::specs::Calendar::civil))]
+    pub fn civil(self) -> Ymd
+        ensures { (result ≡ rule.civil self.ms) × Countable result.year result.month result.day }
+    {
+        date_after(self.day_of())
+    }
 
-// The Thursday of an instant's week, which goes from Monday to Sunday: its year is the ISO year.
-#[tactic(auto, using(crate::proofs::Weeks::thursday_high), unfolding(rules::specs::Calendar::thursday))]
-pub fn thursday(ms: u64) -> Ymd
-    requires { InRange ms }
-    ensures { (result ≡ rule.thursday ms) × Countable result.year result.month result.day }
-{
-    date_after(day_of(ms) + 3 - since_monday(ms))
-}
+    // The days since Monday: 0 on Monday to 6 on Sunday.
+    #[tactic(auto, using(crate::proofs::Instants::day_zero_lem), unfolding(rules::specs::Calendar::since_monday))]
+    pub fn since_monday(self) -> u32
+        ensures { (result ≡ rule.since_monday self.ms) × (result ≤ 6) }
+    {
+        (self.day_of() - DAY_ZERO) % 7
+    }
 
-// The ISO week, from 1.
-#[tactic(auto, unfolding(rules::specs::Calendar::iso_week))]
-pub fn iso_week(ms: u64) -> u32
-    requires { InRange ms }
-    ensures { (result ≡ rule.iso_week ms) × (1 ≤ result) × (result ≤ 53) }
-{
-    day_of_year(thursday(ms)) / 7 + 1
+    // The days since Sunday: 0 on Sunday to 6 on Saturday.
+    #[tactic(auto, using(crate::proofs::Instants::day_zero_lem), unfolding(rules::specs::Calendar::since_sunday))]
+    pub fn since_sunday(self) -> u32
+        ensures { (result ≡ rule.since_sunday self.ms) × (result ≤ 6) }
+    {
+        (self.day_of() - DAY_ZERO + 1) % 7
+    }
+
+    // The Thursday of the week, which goes from Monday to Sunday: its year is the ISO year.
+    #[tactic(auto, using(crate::proofs::Weeks::thursday_high), unfolding(rules::specs::Calendar::thursday))]
+    pub fn thursday(self) -> Ymd
+        ensures { (result ≡ rule.thursday self.ms) × Countable result.year result.month result.day }
+    {
+        date_after(self.day_of() + 3 - self.since_monday())
+    }
+
+    // The ISO week, from 1.
+    #[tactic(auto, unfolding(rules::specs::Calendar::iso_week))]
+    pub fn iso_week(self) -> u32
+        ensures { (result ≡ rule.iso_week self.ms) × (1 ≤ result) × (result ≤ 53) }
+    {
+        day_of_year(self.thursday()) / 7 + 1
+    }
 }

@@ -68,10 +68,10 @@ fn put_places(buf: &mut [u8], at: usize, n: usize, v: u64) -> usize
 {
     let mut rest = v;
     for i in (1..n).rev() {
-        buf[at + i] = (48 + rest % 10) as u8;
+        buf[at + i] = b'0' + (rest % 10) as u8;
         rest /= 10;
     }
-    buf[at] = (48 + rest) as u8;
+    buf[at] = b'0' + rest as u8;
     at + n
 }
 
@@ -155,9 +155,9 @@ fn hex_digit(d: u64) -> u8
     ensures { result ≡ hex_digit d }
 {
     if d < 10 {
-        (48 + d) as u8
+        b'0' + d as u8
     } else {
-        (87 + d) as u8
+        b'a' + (d - 10) as u8
     }
 }
 
@@ -262,7 +262,7 @@ pub fn put_second_decimals(buf: &mut [u8], at: usize, second: f64) -> usize
 // The Unix epoch, as it is held.
 const UNIX_EPOCH: u64 = 9223582903614775808;
 
-// The seconds since the Unix epoch, as an f64, in thousandths and without their sign.
+// The seconds since the Unix epoch, as an f64, in thousandths and without their sign. The bounds are clauses, as in crate real.
 fn unix_thousandths(ms: u64) -> u64
     requires not_before { instant 0 ≤ ms }
     requires not_after { ms ≤ last }

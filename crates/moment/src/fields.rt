@@ -8,12 +8,11 @@ ghost use Rattle.moment.specs.Ranges.{sum_takes, TimeIn, TimeRead, ReadYear, Aft
 ghost use Rattle.moment.specs.Sums.{date_meant, time_meant, civil_instant, summed_to};
 
 use crate::{Clock, Moment, time_ms};
+use calendar::Instant;
 use rules::{Time, Ymd};
 
-// The millisecond 0 and the last, and the Unix epoch.
+// The millisecond 0, and the Unix epoch.
 pub(crate) const ZERO: u64 = 9223372036854775808;
-
-pub(crate) const LAST: u64 = 9223836305915575807;
 
 const UNIX_EPOCH: u64 = 9223582903614775808;
 
@@ -226,10 +225,10 @@ impl Moment {
         if !self.counted {
             return self.on_date(UNKNOWN_DATE);
         }
-        if self.ms < ZERO || LAST < self.ms {
+        let Some(at) = Instant::new(self.ms) else {
             return Moment::failure();
-        }
-        self.on_date(calendar::civil(self.ms))
+        };
+        self.on_date(at.civil())
     }
 
     // The time of day t milliseconds after midnight.

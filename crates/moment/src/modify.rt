@@ -14,8 +14,9 @@ ghost use Rattle.moment.specs.Held.{held};
 ghost use Rattle.moment.specs.Ranges.{ReadYear, Movable, Filled, Moved, Answered, Ranged, Lands};
 ghost use Rattle.moment.specs.Steps.{length_on, months_on, time_on, date_on, first_of_month, first_of_year};
 
-use crate::fields::{LAST, NO_ZONE, ZERO};
+use crate::fields::{NO_ZONE, ZERO};
 use crate::{Moment, Offset};
+use calendar::Instant;
 use rules::Refusal;
 
 // The milliseconds of a day.
@@ -275,7 +276,7 @@ impl Moment {
     pub fn in_range(self) -> bool
         ensures { result ≡ (not self.failed && in_range self.ms) }
     {
-        !self.failed && ZERO <= self.ms && self.ms <= LAST
+        !self.failed && Instant::new(self.ms).is_some()
     }
 
     // "final range": a failed sum, or a time outside 0 to the last millisecond, gives 1.

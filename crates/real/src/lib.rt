@@ -166,7 +166,8 @@ pub fn unix_real(ms: u64) -> f64
     }
 }
 
-// Days from noon of -4713-11-24, for milliseconds from 0 to the last.
+// Days from noon of -4713-11-24, for milliseconds from 0 to the last. The two bounds are clauses here and in crate digits, which stand below
+// the calendar and its type for such a time, `Instant`; and %J begins later than at 0.
 #[tactic(auto, using(crate::proofs::Literals::literals), unfolding(rules::specs::Writing::julian_real))]
 pub fn julian_real(ms: u64) -> f64
     requires not_before { instant 0 ≤ ms }

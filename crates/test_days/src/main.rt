@@ -6,8 +6,8 @@
 #![tactic(auto)]
 
 ghost use Rattle.std.specs.Prelude.{◌≤◌, ◌<◌};
-ghost use Rattle.calendar.specs.Ranges.{InRange};
 
+use calendar::Instant;
 use std::io::Write;
 
 // The millisecond 0 as held: noon of -4713-11-24, here the day 0.
@@ -34,25 +34,23 @@ pub struct Digests {
 }
 
 // The noon of a day.
-fn noon(day: u32) -> u64
+fn noon(day: u32) -> Instant
     requires { day ≤ 5373484 }
-    ensures { InRange result }
 {
-    NOON + u64::from(day) * 86400000
+    let ms = NOON + u64::from(day) * 86400000;
+    Instant { ms }
 }
 
 // The year of a day, as held.
 fn year_of(day: u32) -> u32
     requires { day ≤ 5373484 }
 {
-    calendar::civil(noon(day)).year
+    noon(day).civil().year
 }
 
-// The day of an instant, found back from its date.
-fn day_back(ms: u64) -> u32
-    requires { InRange ms }
-{
-    calendar::days_to(calendar::civil(ms)) - DAY_ZERO
+// The day of a noon, found back from its date.
+fn day_back(noon: Instant) -> u32 {
+    calendar::days_to(noon.civil()) - DAY_ZERO
 }
 
 impl Digests {
@@ -65,31 +63,27 @@ impl Digests {
     }
 
     // With the numbers of a date more: year, month, day, weekday, day of the year.
-    fn with_date(self, ms: u64) -> Digests
-        requires { InRange ms }
-    {
-        let date = calendar::civil(ms);
+    fn with_date(self, noon: Instant) -> Digests {
+        let date = noon.civil();
         self.with(date.year - YEAR_LOW)
             .with(date.month)
             .with(date.day)
-            .with(calendar::since_sunday(ms))
+            .with(noon.since_sunday())
             .with(calendar::day_of_year(date) + 1)
     }
 
     // With the ISO year and the ISO week more.
-    fn with_week(self, ms: u64) -> Digests
-        requires { InRange ms }
-    {
-        self.with(calendar::thursday(ms).year - YEAR_LOW)
-            .with(calendar::iso_week(ms))
+    fn with_week(self, noon: Instant) -> Digests {
+        self.with(noon.thursday().year - YEAR_LOW)
+            .with(noon.iso_week())
     }
 
     // With all eight numbers of a day more.
     fn with_day(self, day: u32) -> Digests
         requires { day ≤ 5373484 }
     {
-        let ms = noon(day);
-        self.with_date(ms).with_week(ms).with(day_back(ms))
+        let noon = noon(day);
+        self.with_date(noon).with_week(noon).with(day_back(noon))
     }
 }
 

@@ -1,7 +1,7 @@
 // timediff: how far, and which way, B is moved to reach A, in numbers and as a text. Whole months come first, then the milliseconds that
 // are left.
 //
-// A and B are instants from the millisecond 0 to the last, held as rules holds them. A calendar month is one number, year * 12 + month - 1:
+// A and B are instants, from the millisecond 0 to the last. A calendar month is one number, year * 12 + month - 1:
 // November -4713, which holds the millisecond 0, is 423454 and December 9999 is 599999.
 //
 // B, moved by the months from its calendar month to A's, may lie past A: then the shift is backed off, one month at a time. Two back-offs
@@ -14,11 +14,12 @@
 ghost use Rattle.std.specs.Prelude.{◌≡◌, ◌+◌, ◌*◌, ◌/◌, ◌%◌, ◌≤◌, ◌<◌, length};
 ghost use Rattle.rules.specs.Calendar.{day_length, midnight};
 ghost use Rattle.rules.specs.Writing.{wide, month_of};
-ghost use Rattle.calendar.specs.Ranges.{Countable, InRange};
+ghost use Rattle.calendar.specs.Ranges.{Countable};
 ghost use Rattle.digits.specs.Writers.{Room, Laid};
 ghost use Rattle.timediff.specs.Spans.{moved, past, between, shift_of, Toward, Tells, span_text, Writable, sign_byte, months_part, rest_part};
 
-use digits::{put_byte, put_digits, put_next, put_number};
+use calendar::Instant;
+use digits::{put_byte, put_digits, put_next, put_number, put_point};
 use rules::Ymd;
 
 // What timediff writes: the sign, the months and, in milliseconds, the rest, which is less than 31 days.
@@ -75,18 +76,18 @@ fn is_past(plus: bool, a: u64, at: u64) -> bool
 
 // "The shift starts at the months from B's calendar month to A's .., is backed off one month at a time and stops at the first that does
 // not pass."
-fn back_off(plus: bool, a: u64, b: u64) -> Shift
-    requires { InRange a × InRange b × Toward plus a b }
-    ensures { (result ≡ shift_of plus a b) × Toward plus a result.at × (between plus a b ≤ result.months + 2) }
+fn back_off(plus: bool, a: Instant, b: Instant) -> Shift
+    requires { Toward plus a.ms b.ms }
+    ensures { (result ≡ shift_of plus a.ms b.ms) × Toward plus a.ms result.at × (between plus a.ms b.ms ≤ result.months + 2) }
 {
-    let date = calendar::civil(b);
-    let time = calendar::time_of_day(b);
+    let date = b.civil();
+    let time = calendar::time_of_day(b.ms);
     let from = month_of(date);
-    let to = month_of(calendar::civil(a));
+    let to = month_of(a.civil());
     let mut months = from.abs_diff(to);
     loop {
         let at = in_month(moved(plus, from, months), date.day, time);
-        if !is_past(plus, a, at) {
+        if !is_past(plus, a.ms, at) {
             break Shift { months, at };
         }
         months -= 1;
@@ -94,16 +95,15 @@ fn back_off(plus: bool, a: u64, b: u64) -> Shift
 }
 
 // How far it is from B to A. "The sign is plus if A is not before B."
-pub fn difference(a: u64, b: u64) -> Span
-    requires { InRange a × InRange b }
-    ensures { Tells a b result }
+pub fn difference(a: Instant, b: Instant) -> Span
+    ensures { Tells a.ms b.ms result }
 {
-    let plus = b <= a;
+    let plus = b.ms <= a.ms;
     let shift = back_off(plus, a, b);
     Span {
         plus,
         months: shift.months,
-        rest: a.abs_diff(shift.at),
+        rest: a.ms.abs_diff(shift.at),
     }
 }
 
@@ -123,7 +123,7 @@ fn put_years(buf: &mut [u8], at: usize, years: u32) -> usize
     if years < 10000 {
         return put_digits::<4>(buf, at, years);
     }
-    put_number(buf, at, 4, years as u64)
+    put_number(buf, at, 4, u64::from(years))
 }
 
 // The sign, the years and the months: `+0001-02`.
@@ -146,8 +146,7 @@ fn put_rest(buf: &mut [u8], at: usize, rest: u32) -> usize
     let before_minute = put_next(buf, before_hour, b' ', rest / 3600000 % 24);
     let before_second = put_next(buf, before_minute, b':', rest / 60000 % 60);
     let point = put_next(buf, before_second, b':', rest / 1000 % 60);
-    let thousandths = put_byte(buf, point, b'.');
-    put_digits::<3>(buf, thousandths, rest % 1000)
+    put_point(buf, point, u64::from(rest))
 }
 
 // The text of a span. Its rest, less than 31 days, fits 32 bits.

@@ -7,9 +7,8 @@
 // Values and answers are stored as crates/values/stdin and stdout. `oracle values` in oracle/ makes both: the answers are the Rust's.
 #![tactic(auto)]
 
-ghost use Rattle.calendar.specs.Ranges.{InRange};
-
-use moment::{Clock, Moment};
+use calendar::Instant;
+use moment::Clock;
 use rules::Refusal;
 use std::io::{Stdout, Write};
 
@@ -28,7 +27,7 @@ fn main(rt: HostRuntime) {
 // A time value's two answers.
 fn row(stdout: &mut Stdout, s: &[u8], clock: Clock) {
     match instant(s, clock) {
-        Ok(p) => answers(stdout, p.ms, p.subsec),
+        Ok((at, subsec)) => answers(stdout, at, subsec),
         Err(Refusal::Shape) => rows::say(stdout, b"refused 2\trefused 2"),
         Err(Refusal::Bytes) => rows::say(stdout, b"refused 3\trefused 3"),
         Err(Refusal::Decimal) => rows::say(stdout, b"refused 5\trefused 5"),
@@ -37,24 +36,24 @@ fn row(stdout: &mut Stdout, s: &[u8], clock: Clock) {
     rows::say(stdout, b"\n");
 }
 
-fn instant(s: &[u8], clock: Clock) -> Result<Moment, Refusal> {
+// The instant that a time value stands for, and whether it asked for `subsec`.
+fn instant(s: &[u8], clock: Clock) -> Result<(Instant, bool), Refusal> {
     if 255 < s.len() {
         return Err(Refusal::Shape);
     }
     if !text::is_ascii(s) {
         return Err(Refusal::Bytes);
     }
-    reading::text_value(s, clock)?.ranged()
+    let p = reading::text_value(s, clock)?.ranged()?;
+    Ok((Instant { ms: p.ms }, p.subsec))
 }
 
-fn answers(stdout: &mut Stdout, ms: u64, subsec: bool)
-    requires { InRange ms }
-{
-    rows::float(stdout, real::julian_real(ms));
+fn answers(stdout: &mut Stdout, at: Instant, subsec: bool) {
+    rows::float(stdout, real::julian_real(at.ms));
     rows::say(stdout, b"\t");
     if subsec {
-        rows::float(stdout, real::unix_real(ms));
+        rows::float(stdout, real::unix_real(at.ms));
     } else {
-        let _ = write!(stdout, "{}", real::unix_seconds(ms));
+        let _ = write!(stdout, "{}", real::unix_seconds(at.ms));
     }
 }

@@ -13,14 +13,13 @@
 ghost use Rattle.std.specs.Prelude.{◌≡◌, ◌≤◌, ◌<◌, ◌^◌, length};
 ghost use Rattle.rules.specs.Calendar as rule;
 ghost use Rattle.rules.specs.Writing as text;
-ghost use Rattle.calendar.specs.Ranges.{InRange};
 ghost use Rattle.moment.specs.Held.{held};
 ghost use Rattle.digits.specs.Writers.{Room, Laid};
 ghost use Rattle.writing.specs.Printable.{Printable};
 ghost use Rattle.writing.specs.Texts.{date_of, whole_time, decimal_time, half};
 ghost use Rattle.writing.specs.Formats.{text_of, IsText, most, most_of, PutIs, CheckIs};
 
-use calendar::{iso_week, since_monday, since_sunday, thursday};
+use calendar::Instant;
 use digits::{
     put_byte, put_bytes, put_digits, put_next, put_second, put_second_decimals, put_short_year,
     put_spaced, put_year, short_year_length, year_length,
@@ -183,15 +182,15 @@ fn unix_length(p: Moment) -> usize
 const EARLY: u64 = 9223458436854775808;
 
 // The Julian day. 6: "`%J` is met with under 86400000000000 ms".
-fn put_julian_day(buf: &mut [u8], at: usize, ms: u64) -> Result<usize, Refusal>
-    requires in_range { InRange ms }
-    requires room { Room buf.old at (text_of (text.julian_letter ms)) }
-    ensures { PutIs (text.julian_letter ms) buf.old at buf.new result }
+#[tactic(auto, using(crate::proofs::Texts::julian_early, crate::proofs::Texts::julian_late))]
+fn put_julian_day(buf: &mut [u8], at: usize, instant: Instant) -> Result<usize, Refusal>
+    requires { Room buf.old at (text_of (text.julian_letter instant.ms)) }
+    ensures { PutIs (text.julian_letter instant.ms) buf.old at buf.new result }
 {
-    if ms < EARLY {
+    if instant.ms < EARLY {
         return Err(Refusal::Early);
     }
-    Ok(digits::put_julian(buf, at, ms))
+    Ok(digits::put_julian(buf, at, instant.ms))
 }
 
 // "Twenty-six letters and the percent sign are read after a `%` .. Another letter .. gives 1."
@@ -200,17 +199,18 @@ fn put_letter(buf: &mut [u8], at: usize, p: Moment, c: u8) -> Result<usize, Refu
     requires room { Room buf.old at (text_of (text.letter c (held p))) }
     ensures { PutIs (text.letter c (held p)) buf.old at buf.new result }
 {
+    let instant = Instant { ms: p.ms };
     match c {
         b'd' => Ok(put_digits::<2>(buf, at, p.day)),
         b'e' => Ok(put_spaced(buf, at, p.day)),
         b'F' => Ok(put_ymd(buf, at, 3, p)),
         b'f' => Ok(put_second_decimals(buf, at, p.second)),
-        b'g' => Ok(put_short_year(buf, at, thursday(p.ms).year)),
-        b'G' => Ok(put_year(buf, at, 3, thursday(p.ms).year)),
+        b'g' => Ok(put_short_year(buf, at, instant.thursday().year)),
+        b'G' => Ok(put_year(buf, at, 3, instant.thursday().year)),
         b'H' => Ok(put_digits::<2>(buf, at, p.hour)),
         b'I' => Ok(put_digits::<2>(buf, at, dial(p.hour))),
         b'j' => Ok(put_digits::<3>(buf, at, day_of_year(p) + 1)),
-        b'J' => put_julian_day(buf, at, p.ms),
+        b'J' => put_julian_day(buf, at, instant),
         b'k' => Ok(put_spaced(buf, at, p.hour)),
         b'l' => Ok(put_spaced(buf, at, dial(p.hour))),
         b'm' => Ok(put_digits::<2>(buf, at, p.month)),
@@ -221,11 +221,11 @@ fn put_letter(buf: &mut [u8], at: usize, p: Moment, c: u8) -> Result<usize, Refu
         b's' => Ok(put_unix(buf, at, p)),
         b'S' => Ok(put_second(buf, at, p.second)),
         b'T' => Ok(put_whole_time(buf, at, p)),
-        b'u' => Ok(put_digits::<1>(buf, at, since_monday(p.ms) + 1)),
-        b'U' => Ok(put_digits::<2>(buf, at, week(p, since_sunday(p.ms)))),
-        b'V' => Ok(put_digits::<2>(buf, at, iso_week(p.ms))),
-        b'w' => Ok(put_digits::<1>(buf, at, since_sunday(p.ms))),
-        b'W' => Ok(put_digits::<2>(buf, at, week(p, since_monday(p.ms)))),
+        b'u' => Ok(put_digits::<1>(buf, at, instant.since_monday() + 1)),
+        b'U' => Ok(put_digits::<2>(buf, at, week(p, instant.since_sunday()))),
+        b'V' => Ok(put_digits::<2>(buf, at, instant.iso_week())),
+        b'w' => Ok(put_digits::<1>(buf, at, instant.since_sunday())),
+        b'W' => Ok(put_digits::<2>(buf, at, week(p, instant.since_monday()))),
         b'Y' => Ok(put_year(buf, at, 3, p.year)),
         b'%' => Ok(put_byte(buf, at, b'%')),
         _ => Err(Refusal::Null),
@@ -255,14 +255,14 @@ fn letter_most(c: u8) -> usize
 }
 
 // How many bytes `put_julian_day` takes; 0 where it is refused.
-fn julian_day_length(ms: u64) -> usize
-    requires { InRange ms }
-    ensures { result ≡ length (text_of (text.julian_letter ms)) }
+#[tactic(auto, using(crate::proofs::Texts::julian_early, crate::proofs::Texts::julian_late))]
+fn julian_day_length(instant: Instant) -> usize
+    ensures { result ≡ length (text_of (text.julian_letter instant.ms)) }
 {
-    if ms < EARLY {
+    if instant.ms < EARLY {
         return 0;
     }
-    digits::julian_length(ms)
+    digits::julian_length(instant.ms)
 }
 
 // How many bytes `put_letter` takes; 0 where it is refused.
@@ -270,11 +270,12 @@ fn letter_length(p: Moment, c: u8) -> usize
     requires { Printable (held p) }
     ensures { (result ≡ length (text_of (text.letter c (held p)))) × (result ≤ 17) }
 {
+    let instant = Instant { ms: p.ms };
     match c {
         b'F' => year_length(3, p.year) + 6,
-        b'g' => short_year_length(thursday(p.ms).year),
-        b'G' => year_length(3, thursday(p.ms).year),
-        b'J' => julian_day_length(p.ms),
+        b'g' => short_year_length(instant.thursday().year),
+        b'G' => year_length(3, instant.thursday().year),
+        b'J' => julian_day_length(instant),
         b's' => unix_length(p),
         b'Y' => year_length(3, p.year),
         _ => letter_most(c),

@@ -3,8 +3,8 @@ use Prim.Native.Nat.{◌+◌, ◌-◌}
 use Rattle.timediff.proofs.Rounds.{Begun, Round}
 use Rattle.timediff.proofs.back_off.Given as goal
 
-abbrev pub invariant-loop-date : goal.invariant-loop-date
-invariant-loop-date l = Begun l.plus l.a l.b l.date l.time l.from l.initial.months × Round l.plus l.a l.b l.initial.months l.months
+abbrev pub invariant-loop-a : goal.invariant-loop-a
+invariant-loop-a l = Begun l.plus l.a.ms l.fn.b.ms l.date l.time l.from l.initial.months × Round l.plus l.a.ms l.fn.b.ms l.initial.months l.months
 
-abbrev pub decreases-loop-date : goal.decreases-loop-date
-decreases-loop-date l = l.months + 2 - l.initial.months
+abbrev pub decreases-loop-a : goal.decreases-loop-a
+decreases-loop-a l = l.months + 2 - l.initial.months

@@ -49,9 +49,9 @@ pub put_digits-requires-in-106-clause-room : goal.put_digits-requires-in-106-cla
 unfolding letter letters writer
 put_digits-requires-in-106-clause-room c = room_as (sym (ap (λ (n : ℕ). wide 3 (n + 1)) c.day_of_year.ensures.0)) (rw c.in-106.is at c.requires.room)
 
-pub put_julian_day-requires-clause-room : goal.put_julian_day-requires-clause-room
+pub put_julian_day-requires : goal.put_julian_day-requires
 unfolding letter letters writer
-put_julian_day-requires-clause-room c = rw c.in-74.is at c.requires.room
+put_julian_day-requires c = rw c.in-74.is at c.requires.room
 
 pub put_spaced-requires-in-107-clause-room : goal.put_spaced-requires-in-107-clause-room
 unfolding letter letters writer
