@@ -12,6 +12,7 @@ ghost use Rattle.dangsoviey.specs.Milliseconds as rule;
 ghost use Rattle.dangsoviey.specs.Milliseconds.{instant_of};
 
 use crate::{Reply, given_of};
+use calendar::Instant;
 use datetime::{calls, texts};
 use moment::{Clock, Moment};
 use rules::{Answer, Given, Refusal, Setting, Unanswered};
@@ -20,11 +21,10 @@ use rules::{Answer, Given, Refusal, Setting, Unanswered};
 const UNIX_EPOCH: u64 = 9223582903614775808;
 
 // Milliseconds from 1970, with their sign.
-fn since_epoch(ms: u64) -> i64
-    requires { InRange ms }
-    ensures { result ≡ since_epoch ms }
+fn since_epoch(at: Instant) -> i64
+    ensures { result ≡ since_epoch at.ms }
 {
-    ms.wrapping_sub(UNIX_EPOCH).cast_signed()
+    at.ms.wrapping_sub(UNIX_EPOCH).cast_signed()
 }
 
 #[tactic(auto, unfolding(crate::specs::Milliseconds::milliseconds, rules::specs::Calls::answered))]
@@ -32,7 +32,7 @@ fn milliseconds(set: Setting, given: Given, value: &[u8], modifiers: &[u8]) -> R
     ensures { result ≡ answered (rule.milliseconds set (value_of given value.now) modifiers.now) 0 }
 {
     let p = calls::moment_of(set, given, value, modifiers)?;
-    Ok(Answer::Integer(since_epoch(p.ms)))
+    Ok(Answer::Integer(since_epoch(Instant { ms: p.ms })))
 }
 
 // The moment that a call is about, as whole milliseconds from 1970-01-01 UTC: an integer.

@@ -8,11 +8,11 @@ ghost use Rattle.rules.specs.Functions.{outcome_of};
 ghost use Rattle.rules.specs.Writing as rule;
 ghost use Rattle.rules.specs.declared.Function.{Function};
 ghost use Rattle.rules.specs.declared.Unanswered.{Unanswered};
-ghost use Rattle.calendar.specs.Ranges.{InRange};
 ghost use Rattle.moment.specs.Held.{held};
 ghost use Rattle.moment.specs.Ranges.{Full};
 ghost use Rattle.datetime.specs.Given.{Gives, formatted_of};
 
+use calendar::Instant;
 use digits::put_byte;
 use moment::Moment;
 use rules::{Answer, Unanswered};
@@ -59,9 +59,8 @@ pub fn datetime(p: Moment, out: &mut [u8]) -> Result<Answer, Unanswered>
 
 // timediff's text.
 #[tactic(auto, unfolding(rules::specs::Calls::answered, rules::specs::Calls::after))]
-pub fn difference(a: u64, b: u64, out: &mut [u8]) -> Result<Answer, Unanswered>
-    requires { InRange a × InRange b }
-    ensures { Gives (text (rule.difference a b)) out.old out.new result }
+pub fn difference(a: Instant, b: Instant, out: &mut [u8]) -> Result<Answer, Unanswered>
+    ensures { Gives (text (rule.difference a.ms b.ms)) out.old out.new result }
 {
     let span = timediff::difference(a, b);
     has_room(out.len(), timediff::span_length(span))?;
@@ -71,7 +70,6 @@ pub fn difference(a: u64, b: u64, out: &mut [u8]) -> Result<Answer, Unanswered>
 // Seconds since the Unix epoch. With subsec: an f64.
 #[tactic(auto, unfolding(rules::specs::Calls::answered, rules::specs::Functions::outcome_of))]
 pub fn unix(p: Moment) -> Answer
-    requires { InRange p.ms }
     ensures { Ok result ≡ answered (outcome_of Function.Unixepoch [] (held p)) 0 }
 {
     if p.subsec {
