@@ -20,7 +20,7 @@ use Rattle.rules.specs.Reading.{time, timed, time_after, settled, date_from, dat
 use Rattle.rules.specs.Writing.{places}
 use Rattle.rules.specs.declared.Time.{Time}
 use Rattle.text.specs.Places.{begins, gap}
-use Rattle.text.proofs.Digits.{digits_other}
+use Rattle.text.proofs.Numbers.{digits_other}
 use Rattle.text.proofs.Bytes.{digit_byte, not_space}
 use Rattle.calendar.proofs.Counting.{month_day}
 use Rattle.calendar.proofs.Instants.{date_again, time_again, start_is}
@@ -29,7 +29,7 @@ use Rattle.moment.specs.Ranges.{sum_takes}
 use Rattle.moment.specs.Sums.{date_meant, time_meant}
 use Rattle.moment.proofs.Steps.{in_time, raw_julian}
 use Rattle.moment.proofs.Branches.{either}
-use Rattle.moment.proofs.Sums.{settled_not, settled_sums, sums_zoned, count_sums}
+use Rattle.moment.proofs.Sums.{settled_not, sums_zoned, count_sums}
 use Rattle.law_putback.proofs.Years.{in_range_lem}
 use Rattle.reading.specs.Readers.{year_month_day}
 use Rattle.reading.proofs.Places.{Stops, digits_places, skip_run}
@@ -46,6 +46,10 @@ use Rattle.law_page.proofs.Clocks.{held, is_utc, zulu_is, hour_of, time_of, from
 
 pub leads_as : {r s : _} → r ≡ s → {t : ℕ} → Leads s t → Leads r t
 leads_as e L = record { moment = L.moment; reads = e ∙ L.reads; stands = L.stands }
+
+-- a zone is taken off at once
+settled_counts : (p : Moment) → (p.zone ≡ no_zone → ⊥) → count_ms p ≡ settled p
+settled_counts p z = rw (ne_eqb p.zone no_zone z)
 
 -- ---- the record of a date and a time
 module _ (y m d : ℕ) (tm : Time) where
@@ -82,8 +86,8 @@ module _ (y m d : ℕ) (tm : Time) where
 
     zoned : (u : Bool) → (tm.zone ≡ no_zone → ⊥) → set_utc (clear (counted (dated u) zulu)) ≡ settled (dated u)
     unfolding past_end
-    zoned true z = sums_zoned (dated true) zulu tm.zone z ∙ settled_sums (dated true) zulu (record { fresh = record { uncounted = refl; timed = λ _. refl }; dated = refl }) refl z takes
-    zoned false z = sums_zoned (dated false) zulu tm.zone z ∙ settled_sums (dated false) zulu (record { fresh = record { uncounted = refl; timed = λ _. refl }; dated = refl }) refl z takes
+    zoned true z = sums_zoned (dated true) zulu tm.zone z ∙ count_sums (dated true) _ _ zulu refl refl refl refl takes ∙ settled_counts (dated true) z
+    zoned false z = sums_zoned (dated false) zulu tm.zone z ∙ count_sums (dated false) _ _ zulu refl refl refl refl takes ∙ settled_counts (dated false) z
 
     zone_is : (u : Bool) → (dated u).zone ≡ tm.zone
     unfolding past_end
