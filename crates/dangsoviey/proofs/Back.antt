@@ -160,12 +160,12 @@ module _ (t : ℕ) (l : unix_epoch - 62167219200000 ≤ t) (u : t ≤ last) wher
       rw (
         le-leb (year 0) (civil t).year (not_before t l u),
         filled_thousandths (in_minute t) (omega arith),
-        wide_places 3 ((civil t).year - year 0) (omega arith) (omega (arith, D.high)),
-        wide_places 1 (civil t).month (omega arith) (omega (arith, M.month_high)),
-        wide_places 1 (civil t).day (omega arith) (omega (arith, M.day_high)),
-        wide_places 1 (time_of_day t / 3600000) (omega arith) (omega arith),
-        wide_places 1 (time_of_day t / 60000 % 60) (omega arith) (omega arith),
-        wide_places 1 (in_minute t / 1000) (omega arith) (omega arith),
+        wide_places 3 ((civil t).year - year 0) (omega (arith, D.high)),
+        wide_places 1 (civil t).month (omega (arith, M.month_high)),
+        wide_places 1 (civil t).day (omega (arith, M.day_high)),
+        wide_places 1 (time_of_day t / 3600000) (omega arith),
+        wide_places 1 (time_of_day t / 60000 % 60) (omega arith),
+        wide_places 1 (in_minute t / 1000) (omega arith),
       )
 
 -- ---- what it is read back to

@@ -1,7 +1,9 @@
 // What the test programs share: the walk over the lines of standard input, and the numbers that the lines write.
 #![tactic(auto)]
 
-ghost use Rattle.std.specs.Prelude.{◌≤◌, ◌<◌, IfSome};
+ghost use Rattle.std.specs.Prelude.{◌≡◌, ◌≤◌, ◌<◌, IfSome, length, take};
+ghost use Rattle.std.specs.Io.KnownBytes.{Consumes};
+ghost use Rattle.rows.specs.Lines.{kept, CalledAtLines};
 
 use moment::{Clock, Offset};
 use std::io::{Read, Write};
@@ -11,25 +13,44 @@ use std::num::f64_from_bits_with_nan;
 // dropped: its last bytes, and its newline too. What stands after the last newline is no line.
 pub fn each_line<R: Read, F: FnMut(&mut [u8])>(input: &mut R, room: &mut [u8], mut row: F)
     requires { F.IsAlwaysCallable row }
+    ensures { CalledAtLines F.FnMut row (R.remaining input.old) (R.remaining input.new) (length room.old) }
 {
     let mut block = [0u8; 65536];
     let mut have = 0;
     for _ in 0..u64::MAX {
-        let n = match streams::read(input, &mut block) {
-            Ok(n) if n > 0 => n,
-            _ => return,
-        };
+        let n = next(input, &mut block);
+        if n == 0 {
+            return;
+        }
         for b in &block[..n] {
-            if have < room.len() {
-                room[have] = *b;
-                have += 1;
-            }
+            have = kept(room, have, *b);
             if *b == b'\n' {
                 row(&mut room[..have]);
                 have = 0;
             }
         }
     }
+}
+
+// How many bytes come into a block: none also where the input can't be read.
+fn next<R: Read>(input: &mut R, block: &mut [u8]) -> usize
+    ensures within { result ≤ length block.new }
+    ensures bytes { Consumes (R.remaining input.old) (R.remaining input.new) (take result block.new) }
+{
+    streams::read(input, block).unwrap_or(0)
+}
+
+// Keeps one byte more of a line, if it has room for it: how many are kept.
+fn kept(room: &mut [u8], have: usize, b: u8) -> usize
+    requires { have ≤ length room.old }
+    ensures within { result ≤ length room.new }
+    ensures bytes { take result room.new ≡ kept (length room.old) (take have room.old) b }
+{
+    if have == room.len() {
+        return have;
+    }
+    room[have] = b;
+    have + 1
 }
 
 // A line without its newline.

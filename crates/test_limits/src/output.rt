@@ -56,16 +56,21 @@ pub fn report(stdout: &mut Stdout, answer: Result<Answer, Unanswered>, buffer: &
         Err(Unanswered::Refused(refusal)) => {
             let _ = write!(stdout, "refused {}", u32::from(refusal));
         }
-        Err(Unanswered::NoRoom(n)) => {
-            let _ = write!(stdout, "no room {n}");
-        }
+        Err(Unanswered::NoRoom(n)) => counted(stdout, b"no room ", n),
     }
     settle(stdout, buffer, 0);
 }
 
+// A word, and a number of bytes.
+fn counted(stdout: &mut Stdout, word: &[u8], n: usize) {
+    rows::say(stdout, word);
+    let _ = streams::print_decimal(stdout, n as u64);
+}
+
 // No text is longer than the buffer.
 fn text(stdout: &mut Stdout, buffer: &mut [u8], n: usize) {
-    let _ = write!(stdout, "text {n}\t");
+    counted(stdout, b"text ", n);
+    rows::say(stdout, b"\t");
     if n <= buffer.len() {
         escaped(stdout, &buffer[..n]);
         settle(stdout, buffer, n);

@@ -12,7 +12,7 @@ use Rattle.rules.specs.Basics.{ascii}
 use Rattle.rules.specs.Calendar.{year, day_length, civil}
 use Rattle.rules.specs.Writing.{places, width, wide, shift_text, difference}
 use Rattle.calendar.specs.Ranges.{InRange}
-use Rattle.digits.proofs.Decimal.{length_places, length_wide, length_exact, wide_low, width_one, width_more}
+use Rattle.digits.proofs.Decimal.{length_places, length_wide, length_exact, width_one, width_more}
 use Rattle.timediff.specs.Spans.{month_at, between, months_of, rest_of, span, span_text, Writable, months_part, rest_part}
 use Rattle.timediff.specs.declared.Span.{Span}
 use Rattle.timediff.proofs.Shifts.{none}
@@ -84,7 +84,7 @@ module _ (a b : ℕ) (A : InRange a) (B : InRange b) where
 
 shift_parts : (n t : ℕ) → shift_text n t ≡ (wide 4 (n / 12) ++ (45 ∷ wide 2 (n % 12))) ++ rest_part t
 unfolding shift_text
-shift_parts n t = let e : places 3 t ≡ wide 3 (t % 1000) = sym (wide_low 2 t) in rw e (simp append_assoc)
+shift_parts n t = simp append_assoc
 
 pub span_parts : (s : Span) → span_text s ≡ months_part s.plus s.months ++ rest_part s.rest
 unfolding span_text

@@ -3,7 +3,7 @@
 use Rattle.std.specs.Prelude.{if◌then◌else◌, ℕ, ◌+◌, ◌-◌, ◌*◌, ◌/◌, ◌%◌, ◌≤◌, ◌<◌, Bool, true, false, ◌≡◌, List, [], ◌∷◌, ◌++◌, ltb, leb}
 use Rattle.rules.specs.Basics.{ascii}
 use Rattle.rules.specs.Calendar.{day_length, civil}
-use Rattle.rules.specs.Writing.{wide, month_of, in_month, back_off, shift_text, difference}
+use Rattle.rules.specs.Writing.{places, wide, month_of, in_month, back_off, shift_text, difference}
 use Rattle.timediff.specs.declared.Span.{Span}
 use Rattle.timediff.specs.declared.Shift.{Shift}
 
@@ -81,4 +81,4 @@ months_part plus n = (sign_byte plus ∷ []) ++ (wide 4 (n / 12) ++ (45 ∷ wide
 abbrev pub rest_part : ℕ → List ℕ
 rest_part t =
     (45 ∷ wide 2 (t / day_length))
-    ++ ((32 ∷ wide 2 (t / 3600000 % 24)) ++ ((58 ∷ wide 2 (t / 60000 % 60)) ++ ((58 ∷ wide 2 (t / 1000 % 60)) ++ ((46 ∷ []) ++ wide 3 (t % 1000)))))
+    ++ ((32 ∷ wide 2 (t / 3600000 % 24)) ++ ((58 ∷ wide 2 (t / 60000 % 60)) ++ ((58 ∷ wide 2 (t / 1000 % 60)) ++ (46 ∷ places 3 t))))

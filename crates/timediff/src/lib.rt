@@ -19,7 +19,7 @@ ghost use Rattle.digits.specs.Writers.{Room, Laid};
 ghost use Rattle.timediff.specs.Spans.{moved, past, between, shift_of, Toward, Tells, span_text, Writable, sign_byte, months_part, rest_part};
 
 use calendar::Instant;
-use digits::{put_byte, put_digits, put_next, put_number};
+use digits::{put_byte, put_digits, put_next, put_number, put_point};
 use rules::Ymd;
 
 // What timediff writes: the sign, the months and, in milliseconds, the rest, which is less than 31 days.
@@ -123,7 +123,7 @@ fn put_years(buf: &mut [u8], at: usize, years: u32) -> usize
     if years < 10000 {
         return put_digits::<4>(buf, at, years);
     }
-    put_number(buf, at, 4, years as u64)
+    put_number(buf, at, 4, u64::from(years))
 }
 
 // The sign, the years and the months: `+0001-02`.
@@ -146,8 +146,7 @@ fn put_rest(buf: &mut [u8], at: usize, rest: u32) -> usize
     let before_minute = put_next(buf, before_hour, b' ', rest / 3600000 % 24);
     let before_second = put_next(buf, before_minute, b':', rest / 60000 % 60);
     let point = put_next(buf, before_second, b':', rest / 1000 % 60);
-    let thousandths = put_byte(buf, point, b'.');
-    put_digits::<3>(buf, thousandths, rest % 1000)
+    put_point(buf, point, u64::from(rest))
 }
 
 // The text of a span. Its rest, less than 31 days, fits 32 bits.

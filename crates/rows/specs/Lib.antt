@@ -1,0 +1,2 @@
+-- What the contracts cite of a program's input.
+pub mod Lines
