@@ -1,5 +1,6 @@
 -- One modifier is the step of its kind; a unit's step is that of its name. Assumes nothing.
 use Rattle.std.proofs.Common.{if◌then◌else◌, ◌≡◌, ℕ, zero, suc, ◌≤◌, Bool, true, false, ◌&&◌, ◌||◌, eqb, List, [], ◌∷◌, length, drop, ℤ, sym, refl, ap, ◌∙◌, true≢false, arith, eqb-true}
+use borrow.Author.Tests.{lt-leb}
 use native.Mathlib.Decide.{dec_le}
 use lib.Ieee.{Float, eq}
 use Rattle.rules.specs.Basics.{every, ascii, word, beside, only_if, trim, Read, got, other, refuse, ◌or◌, ◌>>=◌}
@@ -12,7 +13,7 @@ use Rattle.text.specs.Places.{leads}
 use Rattle.text.proofs.Tests.{and_left, and_right}
 use Rattle.text.proofs.Words.{leads_short}
 use Rattle.moment.specs.Steps.{first_of_month, first_of_year}
-use Rattle.modifiers.specs.Words.{kinds, kind_of, or_unknown, unit_names, unit_of, or_none, step_by}
+use Rattle.modifiers.specs.Words.{kinds, kind_of, unit_names, unit_of, step_by}
 use Rattle.modifiers.specs.declared.words.Kind.{Kind}
 use Rattle.modifiers.specs.declared.words.Unit.{Unit}
 
@@ -80,7 +81,6 @@ step_of Kind.Subsec offset i s p = got (set_subsec p true)
 step_of Kind.Weekday offset i s p = weekday (drop 8 s) p
 step_of Kind.Start offset i s p = start_of (drop 9 s) p
 step_of Kind.Count offset i s p = arithmetic (trim wide_space s) p or refuse Refusal.Null
-step_of Kind.Unknown offset i s p = refuse Refusal.Null
 
 final : (k : Kind) (offset : ℤ) (i : ℕ) (s : List ℕ) (p : Moment) → Final (step_of k offset i s p)
 unfolding unix weekday start_of
@@ -95,7 +95,6 @@ final Kind.Subsec offset i s p = λ q. refl
 final Kind.Weekday offset i s p = final_null (decimal (trim wide_space (drop 8 s))) _ (λ x. final_provided (within (number 0) x (number 7) && eq (number (whole x)) x) _)
 final Kind.Start offset i s p = final_null (beside starts (drop 9 s)) _ (λ f. final_provided (p.counted || (p.dated || p.timed)) _)
 final Kind.Count offset i s p = final_or (arithmetic (trim wide_space s) p)
-final Kind.Unknown offset i s p = λ q. refl
 
 module _ (offset : ℤ) (i : ℕ) (s : List ℕ) (p : Moment) where
   -- the table's steps are those of its kinds
@@ -113,7 +112,7 @@ module _ (offset : ℤ) (i : ℕ) (s : List ℕ) (p : Moment) where
       or (◌>>=◌ (only_if u (drop 9 s)) (λ s. start_of s p)
       or (◌>>=◌ (only_if v s) (λ s. arithmetic (trim wide_space s) p)
       or refuse Refusal.Null))))
-      ≡ step_of (or_unknown (r or (only_if t Kind.Weekday or (only_if u Kind.Start or only_if v Kind.Count)))) offset i s p
+      ≡ ◌>>=◌ (or_null (r or (only_if t Kind.Weekday or (only_if u Kind.Start or only_if v Kind.Count)))) (λ k. step_of k offset i s p)
   in_order (got k) t u v f = final k offset i s p _
   in_order other true u v f = final Kind.Weekday offset i s p _
   in_order other false true v f = final Kind.Start offset i s p _
@@ -121,15 +120,17 @@ module _ (offset : ℤ) (i : ℕ) (s : List ℕ) (p : Moment) where
   in_order other false false false f = refl
   in_order (refuse _) t u v f = elim f [ ]
 
-  pub by_kind : modifier offset i s p ≡ step_of (kind_of s) offset i s p
+  pub by_kind : modifier offset i s p ≡ ◌>>=◌ (or_null (kind_of s)) (λ k. step_of k offset i s p)
   unfolding modifier kind_of leads
   by_kind = rw words_by (in_order (beside kinds s) (leads (ascii "weekday ") s) (leads (ascii "start of ") s) (counts s) (found kinds s))
 
-pub of_kind : {k : Kind} (offset : ℤ) (i : ℕ) (s : List ℕ) (p : Moment) → kind_of s ≡ k → modifier offset i s p ≡ step_of k offset i s p
-of_kind offset i s p e = by_kind offset i s p ∙ ap (λ (k : Kind). step_of k offset i s p) e
+pub of_kind : {k : Kind} (offset : ℤ) (i : ℕ) (s : List ℕ) (p : Moment) → kind_of s ≡ got k → modifier offset i s p ≡ step_of k offset i s p
+of_kind offset i s p e = by_kind offset i s p ∙ rw e
+
+pub of_none : (offset : ℤ) (i : ℕ) (s : List ℕ) (p : Moment) → kind_of s ≡ other → modifier offset i s p ≡ refuse Refusal.Null
+of_none offset i s p e = by_kind offset i s p ∙ rw e
 
 -- ---- what follows a word that leads begins inside
-
 abbrev pub rest_from : Kind → ℕ
 rest_from Kind.Auto = 0
 rest_from Kind.Julianday = 0
@@ -142,16 +143,20 @@ rest_from Kind.Subsec = 0
 rest_from Kind.Weekday = 8
 rest_from Kind.Start = 9
 rest_from Kind.Count = 0
-rest_from Kind.Unknown = 0
+
+abbrev pub From : Read Kind → ℕ → Type 0
+From (got k) n = rest_from k ≤ n
+From other n = Prim.Unit {0}
+From (refuse x) n = Prim.Unit {0}
 
 -- of a word alone there is no rest
-alone : (rows : List (List ℕ × Kind)) (s : List ℕ) → every (λ row. eqb (rest_from row.1) 0) rows ≡ true → rest_from (or_unknown (beside rows s)) ≡ 0
+alone : (rows : List (List ℕ × Kind)) (s : List ℕ) → every (λ row. eqb (rest_from row.1) 0) rows ≡ true → From (beside rows s) (length s)
 unfolding beside every
-alone [] s h = refl
+alone [] s h = tt
 alone (row ∷ rows) s h = go (word row.0 s) (eqb-true _ _ (and_left _ _ h)) (alone rows s (and_right (eqb (rest_from row.1) 0) _ h))
   where
-    go : (t : Bool) → rest_from row.1 ≡ 0 → rest_from (or_unknown (beside rows s)) ≡ 0 → rest_from (or_unknown (if t then got row.1 else beside rows s)) ≡ 0
-    go true a b = a
+    go : (t : Bool) → rest_from row.1 ≡ 0 → From (beside rows s) (length s) → From (if t then got row.1 else beside rows s) (length s)
+    go true a b = omega arith
     go false a b = b
 
 leads_inside : (w s : List ℕ) → leads w s ≡ true → length w ≤ length s
@@ -159,29 +164,35 @@ leads_inside w s h = go (dec_le (length w) (length s))
   where
     go : Dec (length w ≤ length s) → length w ≤ length s
     go (yes k) = k
-    go (no k) = absurd (true≢false (sym h ∙ leads_short w s (omega (arith, k))))
+    go (no k) = absurd (true≢false (sym h ∙ sym (leads_short w s (omega (arith, k))) ∙ lt-leb (length w) (length s) (omega (arith, k))))
 
-pub rest_inside : (s : List ℕ) → rest_from (kind_of s) ≤ length s
+rest_within : (s : List ℕ) → From (kind_of s) (length s)
 unfolding kind_of every
-rest_inside s = go (beside kinds s) (leads (ascii "weekday ") s) (leads (ascii "start of ") s) (counts s) (alone kinds s refl) (leads_inside (ascii "weekday ") s) (leads_inside (ascii "start of ") s) (found kinds s)
+rest_within s = go (beside kinds s) (leads (ascii "weekday ") s) (leads (ascii "start of ") s) (counts s) (alone kinds s refl) (leads_inside (ascii "weekday ") s) (leads_inside (ascii "start of ") s) (found kinds s)
   where
-    go : (r : Read Kind) (t u v : Bool) → rest_from (or_unknown r) ≡ 0 → (t ≡ true → 8 ≤ length s) → (u ≡ true → 9 ≤ length s) → Found r → rest_from (or_unknown (r or (only_if t Kind.Weekday or (only_if u Kind.Start or only_if v Kind.Count)))) ≤ length s
-    go (got k) t u v z a b f = omega arith
+    go : (r : Read Kind) (t u v : Bool) → From r (length s) → (t ≡ true → 8 ≤ length s) → (u ≡ true → 9 ≤ length s) → Found r → From (r or (only_if t Kind.Weekday or (only_if u Kind.Start or only_if v Kind.Count))) (length s)
+    go (got k) t u v z a b f = z
     go other true u v z a b f = a refl
     go other false true v z a b f = b refl
     go other false false true z a b f = omega arith
-    go other false false false z a b f = omega arith
+    go other false false false z a b f = tt
     go (refuse _) t u v z a b f = elim f [ ]
 
+pub rest_inside : (k : Kind) (s : List ℕ) → kind_of s ≡ got k → rest_from k ≤ length s
+rest_inside k s e = rw e at (rest_within s)
+
 -- ---- the step of each unit
-pub by_unit : (w : List ℕ) (n : Float) (p : Moment) → ◌>>=◌ (beside units w) (λ f. f n p) ≡ step_by (unit_of w) n p
+abbrev pub unit_named : List ℕ → Float → Moment → Read Moment
+unit_named w n p = ◌>>=◌ (unit_of w) (λ u. step_by u n p)
+
+pub by_unit : (w : List ℕ) (n : Float) (p : Moment) → ◌>>=◌ (beside units w) (λ f. f n p) ≡ unit_named w n p
 unfolding unit_of
-by_unit w n p = ap (λ (r : Read (Float → Moment → Read Moment)). ◌>>=◌ r (λ f. f n p)) (beside_by step_by unit_names w) ∙ go (beside unit_names w) (found unit_names w)
+by_unit w n p = ap (λ (r : Read (Float → Moment → Read Moment)). ◌>>=◌ r (λ f. f n p)) (beside_by step_by unit_names w) ∙ go (beside unit_names w)
   where
-    go : (r : Read Unit) → Found r → ◌>>=◌ (◌>>=◌ r (λ u. got (step_by u))) (λ f. f n p) ≡ step_by (or_none r) n p
-    go (got u) f = refl
-    go other f = refl
-    go (refuse _) f = elim f [ ]
+    go : (r : Read Unit) → ◌>>=◌ (◌>>=◌ r (λ u. got (step_by u))) (λ f. f n p) ≡ ◌>>=◌ r (λ u. step_by u n p)
+    go (got u) = refl
+    go other = refl
+    go (refuse x) = refl
 
 -- ---- what is to begin
 

@@ -1,53 +1,26 @@
 -- The forms of a modifier that counts, case by case, in the order in which they are tried. Assumes nothing.
-use Rattle.std.proofs.Common.{if◌then◌else◌, ◌≡◌, ℕ, suc, ◌+◌, ◌*◌, ◌<◌, ◌≤◌, Bool, true, false, not, ◌≢◌, List, [], ◌∷◌, length, get_or, drop, nat_abs, sym, refl, ap, ◌∙◌, subst, add-one, arith, drop_of_length-le, drop-cons, ne_eqb}
+use Rattle.std.proofs.Common.{if◌then◌else◌, ◌≡◌, ℕ, suc, ◌+◌, ◌*◌, ◌≤◌, Bool, true, false, not, List, [], ◌∷◌, length, drop, ℤ, nat_abs, sym, refl, ap, ◌∙◌, subst, arith}
 use lib.Ieee.{Float}
-use Rattle.rules.specs.Basics.{Read, got, other, refuse, ◌or◌, ◌>>=◌, every, front, skip, trim_end, trim}
+use Rattle.rules.specs.Basics.{is, Read, got, other, refuse, ◌or◌, ◌>>=◌, every, beside, front, skip, trim_end, trim}
+use Rattle.rules.specs.Calendar.{day_length}
 use Rattle.rules.specs.Decimal.{sign, decimal}
 use Rattle.rules.specs.Floats.{below, cut}
 use Rattle.rules.specs.Moments.{Moment}
 use Rattle.rules.specs.Modifiers as rule
-use Rattle.rules.specs.Modifiers.{provided, wide_space, time_part, time_of, by_date, date_step, time_step, unit_step, arithmetic, unit_ms, fraction_ms}
+use Rattle.rules.specs.Modifiers.{or_null, units, provided, wide_space, time_part, time_of, by_date, date_step, time_step, unit_step, arithmetic, unit_ms, fraction_ms}
 use Rattle.rules.specs.Reading.{time}
 use Rattle.rules.specs.declared.Refusal.{Refusal}
 use Rattle.rules.specs.declared.Time.{Time}
 use Rattle.real.specs.StepMost.{step_most}
 use Rattle.real.proofs.Units.{days_ms, hours_ms, minutes_ms, seconds_ms_lem, months_ms, years_ms, months_cut, years_cut}
-use Rattle.moment.specs.Ranges.{TimeRead}
-use Rattle.moment.specs.Steps.{length_on as by_length, months_on as by_months, time_on as byTime}
-use Rattle.reading.specs.Readers.{time_of as daytimeOf, TimeHeld, year_month_day}
-use Rattle.reading.specs.declared.Daytime.{Daytime}
+use Rattle.moment.specs.Steps.{length_on, months_on, time_on, date_on}
+use Rattle.reading.specs.Readers.{year_month_day}
 use Rattle.reading.proofs.Steps.{then_then}
-use Rattle.modifiers.specs.Words.{unit_of, scale_of, by_scale, step_by}
+use Rattle.modifiers.specs.Words.{scale_of, step_by, unit_after}
 use Rattle.modifiers.specs.declared.counts.Scale.{Scale}
 use Rattle.modifiers.specs.declared.words.Unit.{Unit as Named}
-use Rattle.modifiers.proofs.Dispatch.{by_unit}
-
--- ---- a time of day as crate reading answers it
-pub time_read : {r x : Daytime} {d : Read Time} → daytimeOf r ≡ d → r ≡ x → d ≡ daytimeOf x
-time_read h e = sym h ∙ ap daytimeOf e
-
-pub time_held : (s : List ℕ) {r : Daytime} {t : Time} → TimeHeld s r → r ≡ Daytime.Is t → length s ≤ 255 → TimeRead t
-time_held s h e l = (rw e at h) l
-
--- ---- the time after a date
-module _ (s : List ℕ) (at : ℕ) where
-  pub time_end : length s ≤ at → time_of (drop at s) ≡ got 0
-  unfolding time_of
-  time_end h = rw (drop_of_length-le s h)
-
-  module _ (h : at < length s) where
-    pub time_other : get_or s at 0 ≢ 32 → time_of (drop at s) ≡ other
-    unfolding time_of
-    time_other k = rw (drop-cons s at 0 h, ne_eqb 32 (get_or s at 0) (λ e. k (sym e)))
-
-    module _ (k : get_or s at 0 ≡ 32) where
-      pub time_unread : time (skip wide_space (drop (at + 1) s)) ≡ other → time_of (drop at s) ≡ refuse Refusal.Null
-      unfolding time_of
-      time_unread e = rw (drop-cons s at 0 h, k, ← add-one at, e)
-
-      pub time_is : (t : Time) → time (skip wide_space (drop (at + 1) s)) ≡ got t → time_of (drop at s) ≡ got (time_part t)
-      unfolding time_of
-      time_is t e = rw (drop-cons s at 0 h, k, ← add-one at, e)
+use Rattle.text.proofs.Runs.{drop_front}
+use Rattle.modifiers.proofs.Dispatch.{by_unit, unit_named}
 
 -- ---- the date form
 module _ (minus : Bool) (l : List ℕ) (p : Moment) where
@@ -74,7 +47,7 @@ module _ (minus : Bool) (l : List ℕ) (p : Moment) (q : Read Moment) where
   unfolding time_step
   no_time e = rw e
 
-  pub is_time : (t : Time) → time l ≡ got t → ((time_step minus l p or q) or refuse Refusal.Null) ≡ got (byTime minus (time_part t) p)
+  pub is_time : (t : Time) → time l ≡ got t → ((time_step minus l p or q) or refuse Refusal.Null) ≡ got (time_on (rule.signed minus (time_part t)) p)
   unfolding time_step
   is_time t e = rw e
 
@@ -84,17 +57,51 @@ abbrev pub in_word : ℕ → Bool
 in_word b = not (wide_space b)
 
 module _ (s : List ℕ) (p : Moment) where
-  pub unit_none : decimal (front in_word s) ≡ other → (unit_step s p or refuse Refusal.Null) ≡ refuse Refusal.Null
-  unfolding unit_step
-  unit_none e = rw e
-
-  pub unit_over : (x : Refusal) → decimal (front in_word s) ≡ refuse x → (unit_step s p or refuse Refusal.Null) ≡ refuse x
-  unfolding unit_step
-  unit_over x e = rw e
-
-  pub unit_is : (n : Float) → decimal (front in_word s) ≡ got n → unit_step s p ≡ step_by (unit_of (front in_word (skip wide_space (drop (length (front in_word s)) s)))) n p
+  pub unit_is : (n : Float) → decimal (front in_word s) ≡ got n → unit_step s p ≡ unit_named (front in_word (skip wide_space (drop (length (front in_word s)) s))) n p
   unfolding unit_step
   unit_is n e = rw e (by_unit _ n p)
+
+  -- no number, or one over its limits
+  pub unit_not : (x : Refusal) → refuse x ≡ or_null (decimal (front in_word s)) → (unit_step s p or refuse Refusal.Null) ≡ refuse x
+  unfolding unit_step
+  unit_not x e = go (decimal (front in_word s)) e
+    where
+      second : Float → Read Moment
+      second n = ◌>>=◌ (beside units (front in_word (skip wide_space (drop (length (front in_word s)) s)))) (λ f. f n p)
+
+      go : (r : Read Float) → refuse x ≡ or_null r → (◌>>=◌ r second or refuse Refusal.Null) ≡ refuse x
+      go (got n) h = absurd (cc)
+      go other h = let k : Refusal.Null ≡ x = cc in ap refuse k
+      go (refuse y) h = let k : y ≡ x = cc in ap refuse k
+
+  -- a number, and what stands after its word
+  module _ (n : Float) (e : got n ≡ or_null (decimal (front in_word s))) where
+    after_number : unit_step s p ≡ unit_named (front in_word (skip wide_space (skip in_word s))) n p
+    after_number = unit_is n (go (decimal (front in_word s)) e) ∙ ap (λ (r : List ℕ). unit_named (front in_word (skip wide_space r)) n p) (drop_front in_word s)
+      where
+        go : (r : Read Float) → got n ≡ or_null r → r ≡ got n
+        go (got m) h = sym h
+        go other h = absurd (cc)
+        go (refuse y) h = absurd (cc)
+
+    pub unit_read : (u : Named) → got u ≡ unit_after (skip in_word s) → (unit_step s p or refuse Refusal.Null) ≡ step_by u n p
+    unfolding rule.by_length rule.by_months
+    unit_read u k = ap (λ (r : Read Moment). r or refuse Refusal.Null) (after_number ∙ rw (← k)) ∙ go u
+      where
+        done : (t : Bool) (q : Moment) → (provided t q or refuse Refusal.Null) ≡ provided t q
+        done true q = refl
+        done false q = refl
+
+        go : (u : Named) → (step_by u n p or refuse Refusal.Null) ≡ step_by u n p
+        go Named.Day = done _ _
+        go Named.Hour = done _ _
+        go Named.Minute = done _ _
+        go Named.Second = done _ _
+        go Named.Month = done _ _
+        go Named.Year = done _ _
+
+    pub unit_unread : other ≡ unit_after (skip in_word s) → (unit_step s p or refuse Refusal.Null) ≡ refuse Refusal.Null
+    unit_unread k = let e : unit_step s p ≡ other = after_number ∙ rw (← k) in rw e
 
 -- a unit of a fixed length
 module _ (limit unit n : Float) (p : Moment) where
@@ -102,7 +109,7 @@ module _ (limit unit n : Float) (p : Moment) where
   unfolding rule.by_length
   length_out e = rw e
 
-  pub length_in : below n limit ≡ true → rule.by_length limit unit n p ≡ got (by_length (unit_ms unit n) p)
+  pub length_in : below n limit ≡ true → rule.by_length limit unit n p ≡ got (length_on (unit_ms unit n) p)
   unfolding rule.by_length
   length_in e = rw e
 
@@ -112,35 +119,14 @@ module _ (limit : Float) (k : ℕ) (days n : Float) (p : Moment) where
   unfolding rule.by_months
   months_out e = rw e
 
-  pub months_in : below n limit ≡ true → rule.by_months limit k days n p ≡ got (by_months k days n p)
+  pub months_in : below n limit ≡ true → rule.by_months limit k days n p ≡ got (months_on k days n p)
   unfolding rule.by_months
   months_in e = rw e
-
--- by the scale of the unit; either ends the reading
-final : (t : Bool) (p : Moment) → (provided t p or refuse Refusal.Null) ≡ provided t p
-final true p = refl
-final false p = refl
-
-module _ (u : Named) (n : Float) (p : Moment) where
-  by_scale_lem : (s : Scale) → scale_of u ≡ s → (step_by u n p or refuse Refusal.Null) ≡ (by_scale s n p or refuse Refusal.Null)
-  by_scale_lem s e = ap (λ s. by_scale s n p or refuse Refusal.Null) e
-
-  pub length_by : (l m : Float) → scale_of u ≡ Scale.Length l m → (step_by u n p or refuse Refusal.Null) ≡ rule.by_length l m n p
-  unfolding rule.by_length
-  length_by l m e = by_scale_lem _ e ∙ final (below n l) _
-
-  pub months_by : (l : Float) (k : ℕ) (d : Float) → scale_of u ≡ Scale.Months l k d → (step_by u n p or refuse Refusal.Null) ≡ rule.by_months l k d n p
-  unfolding rule.by_months
-  months_by l k d e = by_scale_lem _ e ∙ final (below n l) _
-
-  pub none_by : scale_of u ≡ Scale.Unknown → (step_by u n p or refuse Refusal.Null) ≡ refuse Refusal.Null
-  none_by e = by_scale_lem _ e
 
 -- how far n units of a scale move, below its limit
 abbrev Reach : Float → Scale → Type 0
 Reach n (Scale.Length l m) = below n l ≡ true → nat_abs (unit_ms m n) ≤ step_most
 Reach n (Scale.Months l k d) = below n l ≡ true → (nat_abs (cut n) * k ≤ 176545) × (nat_abs (fraction_ms d n) ≤ step_most)
-Reach n Scale.Unknown = Unit {0}
 
 reach : (u : Named) (n : Float) → Reach n (scale_of u)
 reach Named.Day n = λ h. omega (arith, days_ms n h)
@@ -149,12 +135,32 @@ reach Named.Minute n = λ h. omega (arith, minutes_ms n h)
 reach Named.Second n = λ h. omega (arith, seconds_ms_lem n h)
 reach Named.Month n = λ h. (omega (arith, months_cut n h), omega (arith, months_ms n h))
 reach Named.Year n = λ h. (omega (arith, years_cut n h), omega (arith, years_ms n h))
-reach Named.Unknown n = tt
 
 pub reaches : (u : Named) (n : Float) (s : Scale) → scale_of u ≡ s → Reach n s
 reaches u n s e = subst (Reach n) e (reach u n)
 
 -- ---- in order
+pub sign_shorter : (s l : List ℕ) (minus : Bool) → (minus, l) ≡ sign s → length l ≤ length s
+unfolding sign
+sign_shorter s l minus e = let h : length l ≡ length (sign s).1 = ap (λ (p : Bool × List ℕ). length p.1) e in omega (arith, after s)
+  where
+    after : (s : List ℕ) → length (sign s).1 ≤ length s
+    after [] = omega arith
+    after (b ∷ s) = go (is "-" b) (is "+" b)
+      where
+        found : Bool → Bool → Bool × List ℕ
+        found t u = if t then (true, s) else (if u then (false, s) else (false, b ∷ s))
+
+        go : (t u : Bool) → length (found t u).1 ≤ suc (length s)
+        go true u = omega arith
+        go false true = omega arith
+        go false false = omega arith
+
+-- the date form is so many months and milliseconds
+pub date_on_as : {months ms : ℤ} (minus : Bool) (y m d t : ℕ) (p : Moment) → months ≡ rule.signed minus (y * 12 + m) → ms ≡ rule.signed minus (d * day_length + t) → date_on months ms p ≡ by_date minus y m d t p
+unfolding by_date
+date_on_as minus y m d t p h k = rw (h, k)
+
 module _ (s : List ℕ) (p : Moment) (minus : Bool) (l : List ℕ) (e : sign s ≡ (minus, l)) where
   in_order : (arithmetic s p or refuse Refusal.Null) ≡ ((date_step minus l p or (time_step minus l p or unit_step s p)) or refuse Refusal.Null)
   unfolding arithmetic

@@ -12,7 +12,7 @@ use Rattle.rules.specs.Writing.{places, width, wide}
 use Rattle.rules.specs.declared.Time.{Time}
 use Rattle.real.proofs.Seconds.{exact_ms}
 use Rattle.text.proofs.Bytes.{digit_byte}
-use Rattle.text.proofs.Digits.{digits_written}
+use Rattle.text.proofs.Numbers.{digits_written}
 
 -- ---- a number that has no more digits than are asked for
 width_most : (k n v : ℕ) → v < 10 ^ suc n → width k v ≤ suc n

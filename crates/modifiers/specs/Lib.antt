@@ -1,5 +1,4 @@
 -- What the contracts cite beside crate rules' definitions.
 pub mod Buffer
 pub mod Words
-pub mod Times
 pub mod Stepped

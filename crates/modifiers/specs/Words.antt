@@ -1,9 +1,9 @@
 -- The words of modifiers as the code classifies them: the rules' tables, with a name in the place of each step.
-use Rattle.std.specs.Prelude.{if◌then◌else◌, ℕ, Bool, ◌||◌, List, [], ◌∷◌, Float}
-use Rattle.rules.specs.Basics.{ascii, is, is_digit, word, beside, Read, got, other, refuse, ◌or◌, only_if}
+use Rattle.std.specs.Prelude.{if◌then◌else◌, ℕ, Bool, not, ◌||◌, List, [], ◌∷◌, Float}
+use Rattle.rules.specs.Basics.{ascii, is, is_digit, word, beside, front, skip, Read, got, ◌or◌, only_if}
 use Rattle.rules.specs.Floats.{number}
 use Rattle.rules.specs.Moments.{Moment}
-use Rattle.rules.specs.Modifiers.{counts, named, by_length, by_months}
+use Rattle.rules.specs.Modifiers.{wide_space, counts, named, by_length, by_months}
 use Rattle.text.specs.Places.{leads}
 use Rattle.modifiers.specs.declared.counts.Scale.{Scale}
 use Rattle.modifiers.specs.declared.words.Kind.{Kind}
@@ -23,24 +23,16 @@ kinds =
     ∷ (ascii "subsecond", Kind.Subsec)
     ∷ []
 
-abbrev pub or_unknown : Read Kind → Kind
-or_unknown (got k) = k
-or_unknown other = Kind.Unknown
-or_unknown (refuse r) = Kind.Unknown
-
 -- in the order of `modifier`
-unfoldable pub kind_of : List ℕ → Kind
-kind_of s = or_unknown (beside kinds s or only_if (leads (ascii "weekday ") s) Kind.Weekday or only_if (leads (ascii "start of ") s) Kind.Start or only_if (counts s) Kind.Count)
+unfoldable pub kind_of : List ℕ → Read Kind
+kind_of s = beside kinds s or only_if (leads (ascii "weekday ") s) Kind.Weekday or only_if (leads (ascii "start of ") s) Kind.Start or only_if (counts s) Kind.Count
 
 -- and by their first letter
-abbrev pub kind_s : List ℕ → Kind
-kind_s s = if word (ascii "subsec") s then Kind.Subsec else (if word (ascii "subsecond") s then Kind.Subsec else (if leads (ascii "start of ") s then Kind.Start else Kind.Unknown))
+abbrev pub kind_s : List ℕ → Read Kind
+kind_s s = if word (ascii "subsec") s || word (ascii "subsecond") s then got Kind.Subsec else only_if (leads (ascii "start of ") s) Kind.Start
 
-abbrev pub kind_u : List ℕ → Kind
-kind_u s = if word (ascii "unixepoch") s then Kind.Unixepoch else (if word (ascii "utc") s then Kind.Utc else Kind.Unknown)
-
-abbrev pub kind_w : List ℕ → Kind
-kind_w s = if leads (ascii "weekday ") s then Kind.Weekday else Kind.Unknown
+abbrev pub kind_u : List ℕ → Read Kind
+kind_u s = if word (ascii "unixepoch") s then got Kind.Unixepoch else only_if (word (ascii "utc") s) Kind.Utc
 
 abbrev pub sign_or_digit : ℕ → Bool
 sign_or_digit b = is "+" b || is "-" b || is_digit b
@@ -55,16 +47,15 @@ unit_names =
     named (ascii "month") Unit.Month (
     named (ascii "year") Unit.Year [])))))
 
-abbrev pub or_none : Read Unit → Unit
-or_none (got u) = u
-or_none other = Unit.Unknown
-or_none (refuse r) = Unit.Unknown
+unfoldable pub unit_of : List ℕ → Read Unit
+unit_of s = beside unit_names s
 
-unfoldable pub unit_of : List ℕ → Unit
-unit_of s = or_none (beside unit_names s)
+abbrev pub unit_m : List ℕ → Read Unit
+unit_m s = if word (ascii "minute") s || word (ascii "minutes") s then got Unit.Minute else only_if (word (ascii "month") s || word (ascii "months") s) Unit.Month
 
-abbrev pub unit_m : List ℕ → Unit
-unit_m s = if word (ascii "minute") s || word (ascii "minutes") s then Unit.Minute else (if word (ascii "month") s || word (ascii "months") s then Unit.Month else Unit.Unknown)
+-- of the next word
+abbrev pub unit_after : List ℕ → Read Unit
+unit_after s = unit_of (front (λ b. not (wide_space b)) (skip wide_space s))
 
 -- how a unit moves
 abbrev pub scale_of : Unit → Scale
@@ -74,13 +65,11 @@ scale_of Unit.Minute = Scale.Length (number 7737900000000) (number 60000)
 scale_of Unit.Second = Scale.Length (number 464270000000000) (number 1000)
 scale_of Unit.Month = Scale.Months (number 176546) 1 (number 30)
 scale_of Unit.Year = Scale.Months (number 14713) 12 (number 365)
-scale_of Unit.Unknown = Scale.Unknown
 
 -- the step that stands beside a unit
 abbrev pub by_scale : Scale → Float → Moment → Read Moment
 by_scale (Scale.Length limit unit) = by_length limit unit
 by_scale (Scale.Months limit k days) = by_months limit k days
-by_scale Scale.Unknown = λ n p. other
 
 abbrev pub step_by : Unit → Float → Moment → Read Moment
 step_by u = by_scale (scale_of u)

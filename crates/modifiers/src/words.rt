@@ -1,7 +1,7 @@
 // The words of modifiers, "compared as bytes, letters in either case": each is classified once, by its first letter.
-ghost use Rattle.std.specs.Prelude.{if◌then◌else◌, ◌≡◌, ◌||◌};
-ghost use Rattle.rules.specs.Basics.{word};
-ghost use Rattle.modifiers.specs.Words.{kind_of, kind_s, kind_u, kind_w, sign_or_digit, unit_of, unit_m};
+ghost use Rattle.std.specs.Prelude.{◌≡◌, ◌||◌};
+ghost use Rattle.rules.specs.Basics.{word, read_some};
+ghost use Rattle.modifiers.specs.Words.{kind_of, kind_s, kind_u, sign_or_digit, unit_of, unit_m};
 
 // What a modifier is.
 #[derive(Clone, Copy)]
@@ -19,89 +19,47 @@ pub enum Kind {
     Start,
     // it begins with a sign or a digit
     Count,
-    Unknown,
 }
 
-pub fn kind_of(s: &[u8]) -> Kind
-    ensures { result ≡ kind_of s.now }
+pub fn kind_of(s: &[u8]) -> Option<Kind>
+    ensures { read_some (λ k. k) result ≡ kind_of s.now }
 {
-    if s.len() == 0 {
-        return Kind::Unknown;
-    }
-    match text::lower(s[0]) {
-        b'a' => only(s, b"auto", Kind::Auto),
-        b'c' => only(s, b"ceiling", Kind::Ceiling),
-        b'f' => only(s, b"floor", Kind::Floor),
-        b'j' => only(s, b"julianday", Kind::Julianday),
-        b'l' => only(s, b"localtime", Kind::Localtime),
+    let (first, _) = s.split_first()?;
+    match text::lower(*first) {
+        b'a' => text::is_word(s, b"auto").then_some(Kind::Auto),
+        b'c' => text::is_word(s, b"ceiling").then_some(Kind::Ceiling),
+        b'f' => text::is_word(s, b"floor").then_some(Kind::Floor),
+        b'j' => text::is_word(s, b"julianday").then_some(Kind::Julianday),
+        b'l' => text::is_word(s, b"localtime").then_some(Kind::Localtime),
         b's' => kind_s(s),
         b'u' => kind_u(s),
-        b'w' => kind_w(s),
-        _ => kind_count(s[0]),
+        b'w' => text::starts(s, b"weekday ").then_some(Kind::Weekday),
+        _ => is_sign_or_digit(*first).then_some(Kind::Count),
     }
 }
 
-// The one word that begins so.
-fn only(s: &[u8], w: &[u8], kind: Kind) -> Kind
-    ensures { result ≡ (if word w.now s.now then kind else Kind.Unknown) }
+fn kind_s(s: &[u8]) -> Option<Kind>
+    ensures { read_some (λ k. k) result ≡ kind_s s.now }
 {
-    if text::is_word(s, w) {
-        kind
-    } else {
-        Kind::Unknown
+    if text::is_word(s, b"subsec") || text::is_word(s, b"subsecond") {
+        return Some(Kind::Subsec);
     }
+    text::starts(s, b"start of ").then_some(Kind::Start)
 }
 
-fn kind_s(s: &[u8]) -> Kind
-    ensures { result ≡ kind_s s.now }
-{
-    if text::is_word(s, b"subsec") {
-        return Kind::Subsec;
-    }
-    if text::is_word(s, b"subsecond") {
-        return Kind::Subsec;
-    }
-    if text::starts(s, b"start of ") {
-        return Kind::Start;
-    }
-    Kind::Unknown
-}
-
-fn kind_u(s: &[u8]) -> Kind
-    ensures { result ≡ kind_u s.now }
+fn kind_u(s: &[u8]) -> Option<Kind>
+    ensures { read_some (λ k. k) result ≡ kind_u s.now }
 {
     if text::is_word(s, b"unixepoch") {
-        return Kind::Unixepoch;
+        return Some(Kind::Unixepoch);
     }
-    if text::is_word(s, b"utc") {
-        return Kind::Utc;
-    }
-    Kind::Unknown
+    text::is_word(s, b"utc").then_some(Kind::Utc)
 }
 
-fn kind_w(s: &[u8]) -> Kind
-    ensures { result ≡ kind_w s.now }
+fn is_sign_or_digit(b: u8) -> bool
+    ensures { result ≡ sign_or_digit b }
 {
-    if text::starts(s, b"weekday ") {
-        return Kind::Weekday;
-    }
-    Kind::Unknown
-}
-
-// A sign or a digit.
-fn kind_count(b: u8) -> Kind
-    ensures { result ≡ (if sign_or_digit b then Kind.Count else Kind.Unknown) }
-{
-    if b == b'+' {
-        return Kind::Count;
-    }
-    if b == b'-' {
-        return Kind::Count;
-    }
-    if text::is_digit(b) {
-        return Kind::Count;
-    }
-    Kind::Unknown
+    b == b'+' || b == b'-' || text::is_digit(b)
 }
 
 // The units of `N unit`.
@@ -113,45 +71,29 @@ pub enum Unit {
     Second,
     Month,
     Year,
-    Unknown,
 }
 
-pub fn unit_of(s: &[u8]) -> Unit
-    ensures { result ≡ unit_of s.now }
+pub fn unit_of(s: &[u8]) -> Option<Unit>
+    ensures { read_some (λ u. u) result ≡ unit_of s.now }
 {
-    if s.len() == 0 {
-        return Unit::Unknown;
-    }
-    match text::lower(s[0]) {
-        b'd' => only_unit(s, b"day", b"days", Unit::Day),
-        b'h' => only_unit(s, b"hour", b"hours", Unit::Hour),
+    let (first, _) = s.split_first()?;
+    match text::lower(*first) {
+        b'd' => is_unit(s, b"day", b"days").then_some(Unit::Day),
+        b'h' => is_unit(s, b"hour", b"hours").then_some(Unit::Hour),
         b'm' => unit_m(s),
-        b's' => only_unit(s, b"second", b"seconds", Unit::Second),
-        b'y' => only_unit(s, b"year", b"years", Unit::Year),
-        _ => Unit::Unknown,
+        b's' => is_unit(s, b"second", b"seconds").then_some(Unit::Second),
+        b'y' => is_unit(s, b"year", b"years").then_some(Unit::Year),
+        _ => None,
     }
 }
 
-fn only_unit(s: &[u8], one: &[u8], more: &[u8], unit: Unit) -> Unit
-    ensures { result ≡ (if word one.now s.now || word more.now s.now then unit else Unit.Unknown) }
-{
-    if is_unit(s, one, more) {
-        unit
-    } else {
-        Unit::Unknown
-    }
-}
-
-fn unit_m(s: &[u8]) -> Unit
-    ensures { result ≡ unit_m s.now }
+fn unit_m(s: &[u8]) -> Option<Unit>
+    ensures { read_some (λ u. u) result ≡ unit_m s.now }
 {
     if is_unit(s, b"minute", b"minutes") {
-        return Unit::Minute;
+        return Some(Unit::Minute);
     }
-    if is_unit(s, b"month", b"months") {
-        return Unit::Month;
-    }
-    Unit::Unknown
+    is_unit(s, b"month", b"months").then_some(Unit::Month)
 }
 
 // A unit's name, or the same with an s.

@@ -6,11 +6,15 @@ use mathlib.Core.Path.{◌≡◌, refl, ap, sym, ◌∙◌}
 use mathlib.Core.List.{List, [], ◌∷◌, ◌++◌}
 use native.Mathlib.Numerals.{add-one}
 use native.Mathlib.Omega.{arith}
-use lib.ListN.{length, get_or, take, drop, drop_of_length-le, length-append}
-use lib.Seq.{drop-cons}
-use Rattle.std.proofs.lemmas.List.{take_at}
+use lib.ListN.{length, get_or, take, drop, drop_of_length-le, length-append, length-drop}
+use lib.Seq.{drop-cons, take_all}
+use Rattle.std.proofs.lemmas.List.{take_at, drop_at}
 use Rattle.rules.specs.Basics.{every, skip, front, trim_end}
 use Rattle.text.proofs.Tests.{and_true, and_false}
+
+-- what `&s[from..]` holds
+pub part_all : (s : List ℕ) (from : ℕ) → take (length s - from) (drop from s) ≡ drop from s
+part_all s from = take_all (length s - from) (drop from s) (simp length-drop (omega arith))
 
 module _ (f : ℕ → Bool) where
   -- ---- at the front
@@ -47,6 +51,9 @@ module _ (f : ℕ → Bool) where
   take_front s =
       let n : length (front f s) ≡ length s - length (skip f s) = omega (arith, length_parts s) in
       rw front-skip at (take_at (front f s) (skip f s) (length s - length (skip f s)) n)
+
+  pub drop_front : (s : List ℕ) → drop (length (front f s)) s ≡ skip f s
+  drop_front s = rw front-skip at (drop_at (front f s) (skip f s) (length (front f s)) refl)
 
   -- ---- at the end
   module _ (b : ℕ) where

@@ -1,51 +1,33 @@
--- `modifiers::modified` meets its contract. Assumes nothing.
-use Rattle.std.proofs.Common.{sym, ap, ◌∙◌, arith, w64}
-use Rattle.rules.specs.Modifiers.{modified}
-use Rattle.rules.specs.Calls.{modifiers}
+use Rattle.std.proofs.Common.{rules, ◌≡◌, sym}
+use Rattle.std.proofs.lemmas.Result.{err_from_is_err_and}
+use Rattle.std.specs.Prelude.{None}
 use Rattle.moment.proofs.Bounds.{after_more}
-use Rattle.moment.specs.Held.{held}
-use Rattle.moment.specs.Ranges.{most_before, read_of}
-use Rattle.modifiers.proofs.Walks.{going_start, going_on, going_stop, going_end}
-use Rattle.modifiers.proofs.Entries.{Entry, entry}
-use mir.ValLaws.{to_z-of_z}
+use Rattle.moment.specs.Ranges.{most_before}
+use Rattle.modifiers.proofs.Walks.{going_start, short, few, going_on, going_stop, going_end}
 use Rattle.modifiers.proofs.modified.Goals as goal
-use Rattle.modifiers.proofs.modified.Tie as tie
-use Rattle.modifiers.proofs.modified.Lts as lts
-use Rattle.modifiers.proofs.modified.Reads as reads
 
-pub loop-at-init : goal.loop-at-init
-loop-at-init c = going_start _ _ _ c.requires.1 c.requires.2
-
--- the modifier that begins here
-here : (c : lts.After-end_of tie.the-claims reads.Pre reads.Post goal.the-invariant-loop-at goal.the-decreases-loop-at tie.handed_clauses) → Entry c.args.buffer.now c.loop-at.at c.loop-at.i c.end_of-end.result
-here c = entry _ _ _ _ c.loop-at.invariant.walk c.loop-at-test.true c.end_of-end.ensures
-
-pub slice_bounds-modifier-count : goal.slice_bounds-modifier-count
-slice_bounds-modifier-count c = omega (arith, c.end_of-end.ensures.place)
-
-pub slice_bounds-modifier-start : goal.slice_bounds-modifier-start
-slice_bounds-modifier-start c = omega (arith, c.end_of-end.ensures.place)
-
-pub slice_bounds-modifier-end : goal.slice_bounds-modifier-end
-slice_bounds-modifier-end c = omega (arith, (here c.before).inside)
+pub loop-s-init : goal.loop-s-init
+loop-s-init c = going_start _ _ _ c.requires.0 c.requires.1
 
 pub modifier-requires : goal.modifier-requires
-modifier-requires c = (rw (to_z-of_z w64 _ c.ranges.offset) c.requires.0, (here c.before.before).short, after_more _ most_before _ (here c.before.before).few c.loop-at.invariant.after)
+modifier-requires c =
+    let cut = rw c.in_default-Some.is-1 at c.cut.ensures in
+    (short c.loop-s.invariant cut, after_more _ most_before _ (few c.loop-s.invariant cut) c.loop-s.invariant.after)
 
-pub returns-in-Refused : goal.returns-in-Refused
-returns-in-Refused c = record { result_value = sym (going_stop c.loop-at.invariant (here c.before.before.before.before) (sym c.modifier.ensures.is ∙ ap read_of c.in-Refused.is)) ∙ ap (λ z. modified z 0 (modifiers c.args.buffer.now) (held c.args.p)) (to_z-of_z w64 _ c.ranges.offset); lands = tt }
+pub returns-in_err-q-clause-value : goal.returns-in_err-q-clause-value
+returns-in_err-q-clause-value c =
+    let cut = rw c.in_default-Some.is-1 at c.cut.ensures in
+    let p = err_from_is_err_and c.from_residual.result c.from_residual.ensures.1 in
+    rw (p.1, p.2) (sym (going_stop c.loop-s.invariant cut (sym c.in_err-q.ensures.is)))
 
-pub overflow_add-at : goal.overflow_add-at
-overflow_add-at c = omega (arith, (here c.before.before.before.before).inside)
+pub loop-s-preserved : goal.loop-s-preserved
+loop-s-preserved c =
+    let cut = rw c.in_default-Some.is-1 at c.cut.ensures in
+    let g = going_on c.loop-s.invariant cut (sym c.in_ok-q.ensures.is) (c.in_ok-q.ensures.after _ c.loop-s.invariant.after) in
+    rw c.in_default-Some.is-1 g
 
-pub overflow_add-i : goal.overflow_add-i
-overflow_add-i c = omega (arith, (here c.before.before.before.before).few)
-
-pub loop-at-smaller : goal.loop-at-smaller
-loop-at-smaller c = omega (arith, (here c.before.before.before.before).inside, c.end_of-end.ensures.place)
-
-pub loop-at-preserved : goal.loop-at-preserved
-loop-at-preserved c = going_on c.loop-at.invariant (here c.before.before.before.before) (sym c.modifier.ensures.is ∙ ap read_of c.in-Next.is) (rw c.in-Next.is at (c.modifier.ensures.after _ c.loop-at.invariant.after))
-
-pub returns : goal.returns
-returns c = let g = going_end c.loop-at.invariant c.loop-at-test.false in record { result_value = sym g.0 ∙ ap (λ z. modified z 0 (modifiers c.args.buffer.now) (held c.args.p)) (to_z-of_z w64 _ c.ranges.offset); lands = g.1 }
+pub returns-clause-value : goal.returns-clause-value
+returns-clause-value c =
+    let n : c.cut.result.1 ≡ None = search rules in
+    let cut = rw n at c.cut.ensures in
+    sym (going_end c.loop-s.invariant cut).0

@@ -1,11 +1,10 @@
--- `modifiers::modified` meets its contract. Assumes nothing.
-use Rattle.std.proofs.Common.{◌-◌, length}
+use Rattle.std.proofs.Common.{length}
 use Rattle.moment.specs.Held.{held}
 use Rattle.modifiers.proofs.Walks.{Going}
 use Rattle.modifiers.proofs.modified.Given as goal
 
-abbrev pub invariant-loop-at : goal.invariant-loop-at
-invariant-loop-at l = Going l.offset l.buffer (held l.initial.q) (held l.q) l.at l.i
+abbrev pub invariant-loop-s : goal.invariant-loop-s
+invariant-loop-s l = Going l.offset.seconds l.buffer (held l.fn.p) (held l.q) l.rest l.i
 
-abbrev pub decreases-loop-at : goal.decreases-loop-at
-decreases-loop-at l = length l.buffer - l.at
+abbrev pub decreases-loop-s : goal.decreases-loop-s
+decreases-loop-s l = length l.rest

@@ -1,45 +1,41 @@
--- `modifiers::counts::arithmetic` meets its contract. Assumes nothing.
-use Rattle.std.proofs.Common.{◌≡◌, ◌<◌, drop}
-use Rattle.rules.specs.Basics.{got, other}
+use Rattle.std.proofs.Common.{◌≡◌, sym, ◌∙◌, arith, w64}
+use mir.ValLaws.{to_z-of_z}
+use Rattle.std.proofs.lemmas.Result.{err_from_is_err_and}
+use Rattle.rules.specs.Basics.{other}
 use Rattle.rules.specs.Modifiers.{date_step}
 use Rattle.moment.specs.Held.{held}
-use Rattle.reading.proofs.Steps.{read_as}
-use Rattle.reading.specs.Readers.{year_month_day, ymd_of, Limits}
-use Rattle.modifiers.specs.Times.{clock_of}
-use Rattle.modifiers.proofs.Forms.{no_date, date_other, date_refused, date_is, dated, date_stops, not_dated}
+use Rattle.moment.proofs.Chains.{moved_as}
+use Rattle.modifiers.proofs.Forms.{sign_shorter, no_date, date_other, date_refused, date_is, date_on_as, dated, date_stops, not_dated}
 use Rattle.modifiers.proofs.Answers.{stepped, refused, stepped_as}
 use Rattle.modifiers.proofs.counts.arithmetic.Goals as goal
-use Rattle.modifiers.proofs.counts.arithmetic.Goals.{in-Is+in-Other, in_default}
-use Rattle.modifiers.proofs.counts.arithmetic.Tie as tie
-use Rattle.modifiers.proofs.counts.arithmetic.Lts as lts
-use Rattle.modifiers.proofs.counts.arithmetic.Reads as reads
+use Rattle.modifiers.proofs.counts.arithmetic.Goals.{in-Some+in_ok-ms+in_default-2, in_default}
 
--- the date that is read, and its limits
-date : (c : lts.Past-After-known_told tie.the-claims reads.Pre reads.Post tie.handed_clauses) → let s = c.args.s.now in year_month_day 0 11 30 (drop c.sign-t.result.next s) ≡ got (c.in-Is.y, c.in-Is.m, c.in-Is.d, drop c.in-Is.end s)
-date c = read_as (ymd_of c.args.s.now) c.year_month_day.ensures.result_value c.in-Is.is
+pub clock_after-requires : goal.clock_after-requires
+clock_after-requires c = omega (arith, c.in-Some.ensures.shorter, sign_shorter c.args.s.now c.sign-minus.result.1.now c.sign-minus.result.0 c.sign-minus.ensures)
 
-limits : (c : lts.Past-After-known_told tie.the-claims reads.Pre reads.Post tie.handed_clauses) → Limits 0 11 30 c.in-Is.y c.in-Is.m c.in-Is.d
-limits c = rw c.in-Is.is at c.year_month_day.ensures.in_year
+pub time_step-requires : goal.time_step-requires
+time_step-requires c = (omega (arith, sign_shorter c.args.s.now c.sign-minus.result.1.now c.sign-minus.result.0 c.sign-minus.ensures), c.requires.1)
 
-few : (c : lts.Past-After-known_told2 tie.the-claims reads.Pre reads.Post tie.handed_clauses) → c.in-Is-clock_after.ms < 90000000
-few c = rw c.in-Is-clock_after.is at c.clock_after.ensures.clock_held
+pub returns-in_err-ms : goal.returns-in_err-ms
+returns-in_err-ms c =
+    let p = err_from_is_err_and c.from_residual.result c.from_residual.ensures.1 in
+    rw (p.1, p.2) (refused _ _ _ (date_stops _ _ _ _ (sym c.sign-minus.ensures) _ (date_refused _ _ _ _ _ _ _ (sym c.in-Some.ensures.value) _ (sym c.in_err-ms.ensures.value))))
 
-pub by_date-requires : goal.by_date-requires
-by_date-requires c = let l = limits c.before.before.before in (c.requires.1, l.year, l.month_high, l.day_high, few c.before)
-
-pub returns-in-Is-clock_after : goal.returns-in-Is-clock_after
-returns-in-Is-clock_after c = stepped _ (dated _ _ _ _ c.sign-t.ensures.s_value _ (date_is _ _ _ _ _ _ _ (date c.before.before.before.before) _ (read_as clock_of c.clock_after.ensures.result_value c.in-Is-clock_after.is))) c.by_date.ensures
-
-pub returns-in-Unread : goal.returns-in-Unread
-returns-in-Unread c = refused _ _ _ (date_stops _ _ _ _ c.sign-t.ensures.s_value _ (date_refused _ _ _ _ _ _ _ (date c.before.before.before) _ (read_as clock_of c.clock_after.ensures.result_value c.in-Unread.is)))
+pub returns-in-Some-2 : goal.returns-in-Some-2
+returns-in-Some-2 c =
+    let months = to_z-of_z w64 _ (record { sfits = c.signed-months.type_inv }) ∙ c.signed-months.ensures in
+    let ms = to_z-of_z w64 _ (record { sfits = c.signed.type_inv }) ∙ c.signed.ensures in
+    let t = rw c.in-Some-2.is at c.in_ok-ms.ensures.value in
+    stepped _ (dated _ _ _ _ (sym c.sign-minus.ensures) _ (date_is _ _ _ _ _ _ _ (sym c.in-Some.ensures.value) _ (sym t)))
+    (moved_as (date_on_as _ _ _ _ _ _ months ms) c.by_date.ensures)
 
 -- no date, or one that no time follows
-undated : (c : lts.At-match-branch tie.the-claims reads.Pre reads.Post tie.handed_clauses) → let a = c.args in date_step c.sign-t.result.minus (drop c.sign-t.result.next a.s.now) (held a.p) ≡ other
-undated c =
-    elim c.match-year_month_day.branch [
-      | in-Is+in-Other w ↦ date_other _ _ _ _ _ _ _ (read_as (ymd_of c.args.s.now) c.year_month_day.ensures.result_value w.in-Is.is) (read_as clock_of w.clock_after.ensures.result_value w.in-Other.is)
-      | in_default w ↦ no_date _ _ _ (read_as (ymd_of c.args.s.now) c.year_month_day.ensures.result_value w.in_default.is)
-    ]
-
 pub returns : goal.returns
-returns c = stepped_as _ (not_dated _ _ _ _ c.sign-t.ensures.s_value (undated c.before.before)) c.time_step.ensures
+returns c = stepped_as _ (not_dated _ _ _ _ (sym c.sign-minus.ensures) undated) c.time_step.ensures
+  where
+    undated : date_step c.sign-minus.result.0 c.sign-minus.result.1.now (held c.args.p) ≡ other
+    undated =
+        elim c.match-year_month_day.branch [
+          | in-Some+in_ok-ms+in_default-2 w ↦ date_other _ _ _ _ _ _ _ (sym w.in-Some.ensures.value) (sym (rw w.in_default-2.is at w.in_ok-ms.ensures.value))
+          | in_default w ↦ no_date _ _ _ (sym w.in_default.ensures.value)
+        ]

@@ -7,8 +7,5 @@ use Rattle.modifiers.proofs.counts.by_months.Goals as goal
 pub returns-then-not-below : goal.returns-then-not-below
 returns-then-not-below c = refused _ _ _ (months_out _ _ _ _ _ (sym c.below.ensures ∙ c.if-not-below.true))
 
-pub by_months-requires : goal.by_months-requires
-by_months-requires c = let h = c.requires.0 (sym c.below.ensures ∙ c.if-not-below.false) in (c.requires.1, h.0, h.1)
-
 pub returns : goal.returns
 returns c = stepped _ (months_in _ _ _ _ _ (sym c.below.ensures ∙ c.if-not-below.false)) c.by_months.ensures

@@ -1,24 +1,14 @@
--- `modifiers::steps::weekday` meets its contract. Assumes nothing.
-use Rattle.std.proofs.Common.{◌≡◌, sym, ap, ◌∙◌}
-use Rattle.rules.specs.Modifiers.{wide_space}
-use Rattle.rules.specs.Basics.{trim}
+use Rattle.std.proofs.Common.{ap, ◌∙◌}
+use Rattle.std.proofs.lemmas.Result.{err_from_is_err_and}
 use Rattle.rules.specs.Decimal.{decimal}
-use Rattle.decimal.specs.AsRead.{as_read}
-use Rattle.modifiers.proofs.Answers.{refused, stepped_as, weekday_none, weekday_over, weekday_is}
+use Rattle.rules.specs.Modifiers.{or_null}
+use Rattle.modifiers.proofs.Answers.{refused, stepped_as, weekday_not, weekday_is}
 use Rattle.modifiers.proofs.steps.weekday.Goals as goal
-use Rattle.modifiers.proofs.steps.weekday.Tie as tie
-use Rattle.modifiers.proofs.steps.weekday.Lts as lts
-use Rattle.modifiers.proofs.steps.weekday.Reads as reads
 
--- the number that is read
-read : (c : lts.After-decimal tie.the-claims reads.Pre reads.Post) → as_read c.decimal.result ≡ decimal (trim wide_space c.args.s.now)
-read c = c.decimal.ensures ∙ ap decimal c.trim_wide.ensures
+pub returns-in_err-x : goal.returns-in_err-x
+returns-in_err-x c =
+    let p = err_from_is_err_and c.from_residual.result c.from_residual.ensures.1 in
+    rw (p.1, p.2) (refused _ _ _ (weekday_not _ _ _ (c.in_err-x.ensures ∙ ap (λ s. or_null (decimal s)) c.trim.ensures)))
 
-pub returns-in-NotOne : goal.returns-in-NotOne
-returns-in-NotOne c = refused _ _ _ (weekday_none _ _ (sym (read c.before.before) ∙ ap as_read c.in-NotOne.is))
-
-pub returns-in-Over : goal.returns-in-Over
-returns-in-Over c = refused _ _ _ (weekday_over _ _ _ (sym (read c.before.before) ∙ ap as_read c.in-Over.is))
-
-pub returns-in-Is : goal.returns-in-Is
-returns-in-Is c = stepped_as _ (weekday_is _ _ _ (sym (read c.before.before.before) ∙ ap as_read c.in-Is.is)) c.on_day.ensures
+pub returns : goal.returns
+returns c = stepped_as _ (weekday_is _ _ _ (c.in_ok-x.ensures ∙ ap (λ s. or_null (decimal s)) c.trim.ensures)) c.on_day.ensures

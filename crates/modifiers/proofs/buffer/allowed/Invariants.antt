@@ -1,0 +1,7 @@
+use Rattle.std.proofs.Common.{◌≡◌, ◌≤◌, drop}
+use Rattle.modifiers.specs.Buffer.{allowed}
+use Rattle.modifiers.proofs.Buffers.{allowed_from}
+use Rattle.modifiers.proofs.buffer.allowed.Given as goal
+
+abbrev pub invariant-loop-b : goal.invariant-loop-b
+invariant-loop-b l = record { left : allowed l.buffer ≡ allowed_from l.high l.ended l.bytes (drop l.b-index l.buffer); few : l.ended ≤ 16; short : l.bytes ≤ 255 }
