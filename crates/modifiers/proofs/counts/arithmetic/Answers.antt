@@ -1,3 +1,4 @@
+-- `modifiers::counts::arithmetic` meets its contract.
 use Rattle.std.proofs.Common.{◌≡◌, sym, ◌∙◌, arith, w64}
 use mir.ValLaws.{to_z-of_z}
 use Rattle.std.proofs.lemmas.Result.{err_from_is_err_and}
