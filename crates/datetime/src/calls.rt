@@ -77,7 +77,13 @@ fn setting_allowed(set: Setting) -> Result<(Clock, Offset), Refusal>
 
 // "time value (..), modifiers left to right, final range"
 #[tactic(auto, unfolding(rules::specs::Functions::moment_of))]
-fn read(clock: Clock, offset: Offset, given: Given, value: &[u8], modifiers: &[u8]) -> Result<Moment, Refusal>
+fn read(
+    clock: Clock,
+    offset: Offset,
+    given: Given,
+    value: &[u8],
+    modifiers: &[u8],
+) -> Result<Moment, Refusal>
     requires { (over 255 (bytes_of (value_of given value.now)) ≡ false) × (modifiers_bad modifiers.now ≡ false) }
     ensures result_value { read_of result ≡ rule.moment_of (record { clock = clock.ms; offset = offset.seconds }) (value_of given value.now) modifiers.now }
     ensures lands { Lands Ready result }
@@ -88,7 +94,13 @@ fn read(clock: Clock, offset: Offset, given: Given, value: &[u8], modifiers: &[u
 
 // The moment that a call is about, of a format and one time value.
 #[tactic(auto, unfolding(rules::specs::Calls::bad_shape))]
-pub fn moment_for(set: Setting, format: &[u8], given: Given, value: &[u8], modifiers: &[u8]) -> Result<Moment, Refusal>
+pub fn moment_for(
+    set: Setting,
+    format: &[u8],
+    given: Given,
+    value: &[u8],
+    modifiers: &[u8],
+) -> Result<Moment, Refusal>
     ensures result_value { read_of result ≡ opened set (strftime format.now (value_of given value.now) modifiers.now) (rule.moment_of set (value_of given value.now) modifiers.now) }
     ensures lands { Lands Ready result }
     ensures short_format { OnOk result (length format.now ≤ 1024) }
@@ -100,7 +112,12 @@ pub fn moment_for(set: Setting, format: &[u8], given: Given, value: &[u8], modif
 
 // And where there is no format: an empty one is never refused.
 #[tactic(auto, unfolding(rules::specs::Calls::bad_shape, rules::specs::Calls::bad_bytes, rules::specs::Calls::high, rules::specs::Basics::every))]
-pub fn moment_of(set: Setting, given: Given, value: &[u8], modifiers: &[u8]) -> Result<Moment, Refusal>
+pub fn moment_of(
+    set: Setting,
+    given: Given,
+    value: &[u8],
+    modifiers: &[u8],
+) -> Result<Moment, Refusal>
     ensures result_value { read_of result ≡ opened set (call Function.Date (value_of given value.now) modifiers.now) (rule.moment_of set (value_of given value.now) modifiers.now) }
     ensures lands { Lands Ready result }
 {
@@ -131,7 +148,13 @@ fn both_ranged(p: Moment, q: Moment) -> Result<(Instant, Instant), Refusal>
 
 // "time value (timediff's first, then its second)": both are read before either's range is tested.
 #[tactic(auto, unfolding(crate::specs::Instants::instants))]
-fn both(clock: Clock, given_a: Given, a: &[u8], given_b: Given, b: &[u8]) -> Result<(Instant, Instant), Refusal>
+fn both(
+    clock: Clock,
+    given_a: Given,
+    a: &[u8],
+    given_b: Given,
+    b: &[u8],
+) -> Result<(Instant, Instant), Refusal>
     requires { (over 255 (bytes_of (value_of given_a a.now)) ≡ false) × (over 255 (bytes_of (value_of given_b b.now)) ≡ false) }
     ensures { read_both result ≡ instants clock.ms (value_of given_a a.now) (value_of given_b b.now) }
 {
@@ -142,7 +165,13 @@ fn both(clock: Clock, given_a: Given, a: &[u8], given_b: Given, b: &[u8]) -> Res
 
 // The two instants that a call of timediff is about.
 #[tactic(auto, unfolding(rules::specs::Calls::bad_shape, rules::specs::Calls::bad_bytes))]
-pub fn instants(set: Setting, given_a: Given, a: &[u8], given_b: Given, b: &[u8]) -> Result<(Instant, Instant), Refusal>
+pub fn instants(
+    set: Setting,
+    given_a: Given,
+    a: &[u8],
+    given_b: Given,
+    b: &[u8],
+) -> Result<(Instant, Instant), Refusal>
     ensures { read_both result ≡ opened set (timediff (value_of given_a a.now) (value_of given_b b.now)) (instants set.clock (value_of given_a a.now) (value_of given_b b.now)) }
 {
     both_allowed(value_allowed(given_a, a), value_allowed(given_b, b))?;

@@ -51,7 +51,8 @@ pub fn datetime(p: Moment, out: &mut [u8]) -> Result<Answer, Unanswered>
     requires { Full (held p) }
     ensures { Gives (text (rule.date_text (held p) ++ ascii " " ++ rule.time_text (held p))) out.old out.new result }
 {
-    has_room(out.len(), writing::date_length(p) + 1 + writing::time_length(p))?;
+    let length = writing::date_length(p) + 1 + writing::time_length(p);
+    has_room(out.len(), length)?;
     let space = writing::put_date(out, 0, p);
     let after = put_byte(out, space, b' ');
     Ok(Answer::Text(writing::put_time(out, after, p)))
