@@ -1,30 +1,19 @@
 -- Laws of whole Unix milliseconds. Assumes nothing.
-use Prim.Native.Nat.{ℕ, ◌≤◌}
-use mathlib.Core.Bool.{true, false}
-use mathlib.Core.List.{List, ◌++◌}
+use mathlib.Core.Bool.{true}
+use mathlib.Core.List.{◌++◌}
 use mathlib.Core.Path.{◌≡◌, sym, ap, ◌∙◌, subst}
-use native.Mathlib.Omega.{arith}
-use borrow.Author.Tests.{ltb-true, ltb-false}
-use lib.IntN.{ℤ, pos, negsuc, nat_abs}
-use lib.Signed.{lt_z}
-use Rattle.rules.specs.Basics.{ascii, Read, got, ◌>>=◌}
+use lib.IntN.{ℤ}
+use Rattle.rules.specs.Basics.{ascii}
 use Rattle.rules.specs.Calendar.{in_range}
-use Rattle.rules.specs.Calls.{Value, Outcome, text, integer, refused, call, answered}
-use Rattle.rules.specs.Functions.{moment_of, settle, opened}
+use Rattle.rules.specs.Calls.{text}
 use Rattle.rules.specs.Moments.{Moment, blank, counted, set_utc, set_subsec, count_ms, fill}
 use Rattle.rules.specs.Reading.{now}
-use Rattle.rules.specs.Writing.{since_epoch, date_text, time_text}
-use Rattle.rules.specs.declared.Answer.{Answer}
-use Rattle.rules.specs.declared.Function.{Function}
-use Rattle.rules.specs.declared.Refusal.{Refusal}
-use Rattle.rules.specs.declared.Setting.{Setting}
+use Rattle.rules.specs.Writing.{date_text, time_text}
 use Rattle.calendar.specs.Ranges.{InRange}
-use Rattle.real.specs.StepMost.{step_most}
 use Rattle.moment.specs.Ranges.{After, Full}
 use Rattle.moment.specs.Steps.{length_on}
 use Rattle.moment.proofs.Bounds.{fill_full}
-use Rattle.moment.proofs.Steps.{in_range_lem}
-use Rattle.dangsoviey.specs.Milliseconds.{milliseconds, instant_of, stamped, stamp}
+use Rattle.dangsoviey.specs.Milliseconds.{instant_of, stamped, stamp}
 
 -- ---- a stamp
 -- what is then written

@@ -28,7 +28,12 @@ fn since_epoch(ms: u64) -> i64
 }
 
 #[tactic(auto, unfolding(crate::specs::Milliseconds::milliseconds, rules::specs::Calls::answered))]
-fn milliseconds(set: Setting, given: Given, value: &[u8], modifiers: &[u8]) -> Result<Answer, Unanswered>
+fn milliseconds(
+    set: Setting,
+    given: Given,
+    value: &[u8],
+    modifiers: &[u8],
+) -> Result<Answer, Unanswered>
     ensures { result ≡ answered (rule.milliseconds set (value_of given value.now) modifiers.now) 0 }
 {
     let p = calls::moment_of(set, given, value, modifiers)?;
