@@ -177,8 +177,8 @@ fn time_after(s: &[u8]) -> Option<Moment>
     time_alone(s)
 }
 
-// YYYY-MM-DD with optional time, of a year before 0 where `minus` says so. "Between date and time any run of whitespace and `T`, also none." A
-// zone is taken off at once.
+// YYYY-MM-DD with optional time; `minus` says whether a minus stands before it. "Between date and time any run of whitespace and `T`, also
+// none." A zone is taken off at once.
 #[tactic(auto, unfolding(rules::specs::Reading::date_from, crate::specs::Readers::year_month_day))]
 fn date_from(s: &[u8], minus: bool) -> Option<Moment>
     requires { length s.now ≤ 255 }
