@@ -1,7 +1,7 @@
 // Bytes of a slice: the digits, whitespace, words and parts that every reader of a text is made of.
 //
-// A reader takes a slice and hands back what it read and the rest of the slice, as the rules' readers take a list: digits::<4>(b"2024-02-29", 0, 9999)
-// is Some((2024, b"-02-29")), and byte(b"-02-29", b'-') is Some(b"02-29"). Where another form stands, the answer is None.
+// A reader takes a slice and hands back what it read and the rest of the slice, as the rules' readers take a list: byte(b"-02-29", b'-') is
+// Some(b"02-29"), and digits::<2>(b"02-29", 1, 12) is Some((2, b"-29")). Where another form stands, the answer is None.
 #![tactic(auto)]
 
 ghost use Rattle.std.specs.Prelude.{◌≡◌, ◌==◌, ℕ, Bool, not, ◌≤◌, ◌<◌, leb, length, position, IfSome};
@@ -88,8 +88,8 @@ pub fn byte(s: &[u8], b: u8) -> Option<&[u8]>
     if *x == b { Some(rest) } else { None }
 }
 
-// N digits whose number is lo to hi, "always full digits". It is inlined at each number of a date and a time: as a call it costs more than
-// the digits (docs/SPEED.md).
+// N digits whose number is lo to hi, "always full digits". It is inlined at each number of a date and a time: a call of it takes longer than
+// the digits do.
 #[inline(always)]
 pub fn digits<const N: usize>(s: &[u8], lo: u32, hi: u32) -> Option<(u32, &[u8])>
     requires { N ≤ 9 }
