@@ -1,5 +1,5 @@
 -- What is given back of an outcome: a text laid in the lent buffer, its length where it has no room, or a refusal. Assumes nothing.
-use Prim.Native.Nat.{ℕ, ◌+◌, ◌≤◌, ◌<◌}
+use Prim.Native.Nat.{ℕ, ◌+◌, ◌≤◌}
 use mathlib.Core.List.{List, [], ◌∷◌, ◌++◌}
 use mathlib.Core.Path.{◌≡◌, ap, ◌∙◌, subst}
 use native.Mathlib.Omega.{arith}

@@ -2,20 +2,19 @@
 //
 // "2, 3, 4 are tested first, in that order, over all arguments, whether used or not. Then 1 and 5 as reading meets them: time value
 // (timediff's first, then its second), modifiers left to right, final range."
-ghost use Rattle.std.specs.Prelude.{◌≡◌, false, ◌≤◌, IfOk, OnOk, length};
-ghost use Rattle.rules.specs.Basics.{read_ok};
+ghost use Rattle.std.specs.Prelude.{◌≡◌, false, ◌≤◌, OnOk, length};
 ghost use Rattle.rules.specs.Calls.{value_of, bytes_of, over, high, modifiers_bad, bad_shape, bad_bytes, call, strftime, timediff};
 ghost use Rattle.rules.specs.Functions as rule;
 ghost use Rattle.rules.specs.Functions.{opened};
 ghost use Rattle.rules.specs.declared.Function.{Function};
-ghost use Rattle.calendar.specs.Ranges.{InRange};
 ghost use Rattle.moment.specs.Held.{held};
 ghost use Rattle.moment.specs.Ranges.{read_of, Lands};
 ghost use Rattle.modifiers.specs.Buffer.{allowed_by};
 ghost use Rattle.datetime.specs.Allowed.{both_allowed, SettingAllowed};
-ghost use Rattle.datetime.specs.Instants.{ranged_both, instants, present_of};
+ghost use Rattle.datetime.specs.Instants.{ranged_both, instants, present_of, read_both};
 ghost use Rattle.datetime.specs.Opened.{Ready};
 
+use calendar::Instant;
 use modifiers::buffer;
 use moment::{Clock, Moment, Offset};
 use rules::{Given, Refusal, Setting};
@@ -78,7 +77,13 @@ fn setting_allowed(set: Setting) -> Result<(Clock, Offset), Refusal>
 
 // "time value (..), modifiers left to right, final range"
 #[tactic(auto, unfolding(rules::specs::Functions::moment_of))]
-fn read(clock: Clock, offset: Offset, given: Given, value: &[u8], modifiers: &[u8]) -> Result<Moment, Refusal>
+fn read(
+    clock: Clock,
+    offset: Offset,
+    given: Given,
+    value: &[u8],
+    modifiers: &[u8],
+) -> Result<Moment, Refusal>
     requires { (over 255 (bytes_of (value_of given value.now)) ≡ false) × (modifiers_bad modifiers.now ≡ false) }
     ensures result_value { read_of result ≡ rule.moment_of (record { clock = clock.ms; offset = offset.seconds }) (value_of given value.now) modifiers.now }
     ensures lands { Lands Ready result }
@@ -89,7 +94,13 @@ fn read(clock: Clock, offset: Offset, given: Given, value: &[u8], modifiers: &[u
 
 // The moment that a call is about, of a format and one time value.
 #[tactic(auto, unfolding(rules::specs::Calls::bad_shape))]
-pub fn moment_for(set: Setting, format: &[u8], given: Given, value: &[u8], modifiers: &[u8]) -> Result<Moment, Refusal>
+pub fn moment_for(
+    set: Setting,
+    format: &[u8],
+    given: Given,
+    value: &[u8],
+    modifiers: &[u8],
+) -> Result<Moment, Refusal>
     ensures result_value { read_of result ≡ opened set (strftime format.now (value_of given value.now) modifiers.now) (rule.moment_of set (value_of given value.now) modifiers.now) }
     ensures lands { Lands Ready result }
     ensures short_format { OnOk result (length format.now ≤ 1024) }
@@ -101,7 +112,12 @@ pub fn moment_for(set: Setting, format: &[u8], given: Given, value: &[u8], modif
 
 // And where there is no format: an empty one is never refused.
 #[tactic(auto, unfolding(rules::specs::Calls::bad_shape, rules::specs::Calls::bad_bytes, rules::specs::Calls::high, rules::specs::Basics::every))]
-pub fn moment_of(set: Setting, given: Given, value: &[u8], modifiers: &[u8]) -> Result<Moment, Refusal>
+pub fn moment_of(
+    set: Setting,
+    given: Given,
+    value: &[u8],
+    modifiers: &[u8],
+) -> Result<Moment, Refusal>
     ensures result_value { read_of result ≡ opened set (call Function.Date (value_of given value.now) modifiers.now) (rule.moment_of set (value_of given value.now) modifiers.now) }
     ensures lands { Lands Ready result }
 {
@@ -122,30 +138,41 @@ fn present(given: Given) -> Given
 
 // "final range" of both, which is refused alike.
 #[tactic(auto, unfolding(crate::specs::Instants::ranged_both))]
-fn both_ranged(p: Moment, q: Moment) -> Result<(u64, u64), Refusal>
-    ensures result_value { read_ok (λ r. r) result ≡ ranged_both (held p) (held q) }
-    ensures both_in_range { IfOk result (λ r. InRange r.0 × InRange r.1) }
+fn both_ranged(p: Moment, q: Moment) -> Result<(Instant, Instant), Refusal>
+    ensures { read_both result ≡ ranged_both (held p) (held q) }
 {
-    Ok((p.ranged()?.ms, q.ranged()?.ms))
+    let p = p.ranged()?;
+    let q = q.ranged()?;
+    Ok((Instant { ms: p.ms }, Instant { ms: q.ms }))
 }
 
 // "time value (timediff's first, then its second)": both are read before either's range is tested.
 #[tactic(auto, unfolding(crate::specs::Instants::instants))]
-fn both(clock: Clock, given_a: Given, a: &[u8], given_b: Given, b: &[u8]) -> Result<(u64, u64), Refusal>
+fn both(
+    clock: Clock,
+    given_a: Given,
+    a: &[u8],
+    given_b: Given,
+    b: &[u8],
+) -> Result<(Instant, Instant), Refusal>
     requires { (over 255 (bytes_of (value_of given_a a.now)) ≡ false) × (over 255 (bytes_of (value_of given_b b.now)) ≡ false) }
-    ensures result_value { read_ok (λ r. r) result ≡ instants clock.ms (value_of given_a a.now) (value_of given_b b.now) }
-    ensures both_in_range { IfOk result (λ r. InRange r.0 × InRange r.1) }
+    ensures { read_both result ≡ instants clock.ms (value_of given_a a.now) (value_of given_b b.now) }
 {
     let p = reading::time_value(present(given_a), a, clock)?;
     let q = reading::time_value(present(given_b), b, clock)?;
     both_ranged(p, q)
 }
 
-// The two instants that a call of timediff is about, in milliseconds as they are held.
+// The two instants that a call of timediff is about.
 #[tactic(auto, unfolding(rules::specs::Calls::bad_shape, rules::specs::Calls::bad_bytes))]
-pub fn instants(set: Setting, given_a: Given, a: &[u8], given_b: Given, b: &[u8]) -> Result<(u64, u64), Refusal>
-    ensures result_value { read_ok (λ r. r) result ≡ opened set (timediff (value_of given_a a.now) (value_of given_b b.now)) (instants set.clock (value_of given_a a.now) (value_of given_b b.now)) }
-    ensures both_in_range { IfOk result (λ r. InRange r.0 × InRange r.1) }
+pub fn instants(
+    set: Setting,
+    given_a: Given,
+    a: &[u8],
+    given_b: Given,
+    b: &[u8],
+) -> Result<(Instant, Instant), Refusal>
+    ensures { read_both result ≡ opened set (timediff (value_of given_a a.now) (value_of given_b b.now)) (instants set.clock (value_of given_a a.now) (value_of given_b b.now)) }
 {
     both_allowed(value_allowed(given_a, a), value_allowed(given_b, b))?;
     let (clock, _) = setting_allowed(set)?;

@@ -37,7 +37,13 @@ fn renewed(modifiers: &[u8], p: Moment) -> Moment
 
 // YYYY-MM-DD.
 #[tactic(auto, using(crate::proofs::Answers::called), unfolding(rules::specs::Calls::answered, rules::specs::Calls::after, rules::specs::Functions::outcome_of))]
-pub fn date(set: Setting, given: Given, value: &[u8], modifiers: &[u8], out: &mut [u8]) -> Result<Answer, Unanswered>
+pub fn date(
+    set: Setting,
+    given: Given,
+    value: &[u8],
+    modifiers: &[u8],
+    out: &mut [u8],
+) -> Result<Answer, Unanswered>
     ensures value { result ≡ answered (answer set (call Function.Date (value_of given value.now) modifiers.now)) (length out.old) }
     ensures out_after { out.new ≡ after (answer set (call Function.Date (value_of given value.now) modifiers.now)) out.old }
 {
@@ -47,7 +53,13 @@ pub fn date(set: Setting, given: Given, value: &[u8], modifiers: &[u8], out: &mu
 
 // HH:MM:SS, and three decimals with subsec.
 #[tactic(auto, using(crate::proofs::Answers::called), unfolding(rules::specs::Calls::answered, rules::specs::Calls::after, rules::specs::Functions::outcome_of))]
-pub fn time(set: Setting, given: Given, value: &[u8], modifiers: &[u8], out: &mut [u8]) -> Result<Answer, Unanswered>
+pub fn time(
+    set: Setting,
+    given: Given,
+    value: &[u8],
+    modifiers: &[u8],
+    out: &mut [u8],
+) -> Result<Answer, Unanswered>
     ensures value { result ≡ answered (answer set (call Function.Time (value_of given value.now) modifiers.now)) (length out.old) }
     ensures out_after { out.new ≡ after (answer set (call Function.Time (value_of given value.now) modifiers.now)) out.old }
 {
@@ -73,7 +85,12 @@ pub fn datetime(
 
 // The Julian day, as an f64. The buffer is not touched: none is lent.
 #[tactic(auto, using(crate::proofs::Answers::called), unfolding(rules::specs::Calls::answered, rules::specs::Functions::outcome_of))]
-pub fn julianday(set: Setting, given: Given, value: &[u8], modifiers: &[u8]) -> Result<Answer, Unanswered>
+pub fn julianday(
+    set: Setting,
+    given: Given,
+    value: &[u8],
+    modifiers: &[u8],
+) -> Result<Answer, Unanswered>
     ensures { result ≡ answered (answer set (call Function.Julianday (value_of given value.now) modifiers.now)) 0 }
 {
     let p = calls::moment_of(set, given, value, modifiers)?;
@@ -82,7 +99,12 @@ pub fn julianday(set: Setting, given: Given, value: &[u8], modifiers: &[u8]) -> 
 
 // Seconds since the Unix epoch: an integer, rounded by floor; with subsec an f64.
 #[tactic(auto, using(crate::proofs::Answers::called), unfolding(rules::specs::Calls::answered, rules::specs::Functions::outcome_of))]
-pub fn unixepoch(set: Setting, given: Given, value: &[u8], modifiers: &[u8]) -> Result<Answer, Unanswered>
+pub fn unixepoch(
+    set: Setting,
+    given: Given,
+    value: &[u8],
+    modifiers: &[u8],
+) -> Result<Answer, Unanswered>
     ensures { result ≡ answered (answer set (call Function.Unixepoch (value_of given value.now) modifiers.now)) 0 }
 {
     let p = calls::moment_of(set, given, value, modifiers)?;

@@ -13,6 +13,7 @@ ghost use Rattle.moment.specs.Held.{held};
 ghost use Rattle.moment.specs.Ranges.{Full};
 ghost use Rattle.datetime.specs.Given.{Gives, formatted_of};
 
+use calendar::Instant;
 use digits::put_byte;
 use moment::Moment;
 use rules::{Answer, Unanswered};
@@ -51,7 +52,10 @@ pub fn datetime(p: Moment, out: &mut [u8]) -> Result<Answer, Unanswered>
     requires { Full (held p) }
     ensures { Gives (text (rule.date_text (held p) ++ ascii " " ++ rule.time_text (held p))) out.old out.new result }
 {
-    has_room(out.len(), writing::date_length(p) + 1 + writing::time_length(p))?;
+    has_room(
+        out.len(),
+        writing::date_length(p) + 1 + writing::time_length(p),
+    )?;
     let space = writing::put_date(out, 0, p);
     let after = put_byte(out, space, b' ');
     Ok(Answer::Text(writing::put_time(out, after, p)))
@@ -59,9 +63,8 @@ pub fn datetime(p: Moment, out: &mut [u8]) -> Result<Answer, Unanswered>
 
 // timediff's text.
 #[tactic(auto, unfolding(rules::specs::Calls::answered, rules::specs::Calls::after))]
-pub fn difference(a: u64, b: u64, out: &mut [u8]) -> Result<Answer, Unanswered>
-    requires { InRange a × InRange b }
-    ensures { Gives (text (rule.difference a b)) out.old out.new result }
+pub fn difference(a: Instant, b: Instant, out: &mut [u8]) -> Result<Answer, Unanswered>
+    ensures { Gives (text (rule.difference a.ms b.ms)) out.old out.new result }
 {
     let span = timediff::difference(a, b);
     has_room(out.len(), timediff::span_length(span))?;

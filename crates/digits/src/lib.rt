@@ -68,10 +68,10 @@ fn put_places(buf: &mut [u8], at: usize, n: usize, v: u64) -> usize
 {
     let mut rest = v;
     for i in (1..n).rev() {
-        buf[at + i] = (48 + rest % 10) as u8;
+        buf[at + i] = b'0' + (rest % 10) as u8;
         rest /= 10;
     }
-    buf[at] = (48 + rest) as u8;
+    buf[at] = b'0' + rest as u8;
     at + n
 }
 
@@ -155,9 +155,9 @@ fn hex_digit(d: u64) -> u8
     ensures { result ≡ hex_digit d }
 {
     if d < 10 {
-        (48 + d) as u8
+        b'0' + d as u8
     } else {
-        (87 + d) as u8
+        b'a' + (d - 10) as u8
     }
 }
 

@@ -13,7 +13,7 @@ pub returns : goal.returns
 returns c = let r = formatted (held c.args.p) c.args.format.now in
     let short : length (text_of r) ≤ length c.args.out.now =
     elim c.if-out-most.branch [
-      then-out-most+in_ok-has_room w ↦ omega (arith, w.format_length.ensures, w.in_ok-has_room.ensures)
-    | else-out-most w ↦ omega (arith, w.if-out-most.false, check_short r _ _ c.in_ok-most.ensures)
+      | then-out-most+in_ok-has_room w ↦ omega (arith, w.format_length.ensures, w.in_ok-has_room.ensures)
+      | else-out-most w ↦ omega (arith, w.if-out-most.false, check_short r _ _ c.in_ok-most.ensures)
     ] in
     gives_format r _ short c.in_ok-put_format.was c.put_format.ensures
