@@ -114,7 +114,7 @@ pub fn date_after(days: u32) -> Ymd
     }
 }
 
-// The instant at which a date begins, START at the earliest. Its day may lie past its month's end.
+// The millisecond at which a date begins, START at the earliest. Its day may lie past its month's end.
 #[tactic(auto, using(crate::proofs::Instants::start_is), unfolding(rules::specs::Calendar::midnight))]
 pub fn midnight(date: Ymd) -> u64
     requires { Countable date.year date.month date.day }

@@ -11,7 +11,7 @@ use lib.IntN.{ℤ, pos, negsuc}
 use lib.ListN.{length}
 use lib.Signed.{◌≤ℤ◌}
 use Rattle.rules.specs.Basics.{ascii, every}
-use Rattle.rules.specs.Calendar.{year, unix_epoch, last, days_to, Exists, day_of, time_of_day, civil}
+use Rattle.rules.specs.Calendar.{year, unix_epoch, last, in_range, days_to, Exists, day_of, time_of_day, civil}
 use Rattle.rules.specs.Calls.{bytes, text, integer, bad_shape, bad_bytes, bad_setting}
 use Rattle.rules.specs.Decimal.{value}
 use Rattle.rules.specs.Moments.{Moment, blank, counted, set_utc, set_subsec, on_date, on_time, fill_time, fill}
@@ -30,9 +30,8 @@ use Rattle.law_putback.proofs.Demand.{none_bad, none_high}
 use Rattle.law_putback.proofs.Given.{given}
 use Rattle.law_putback.proofs.Reached.{by_itself}
 use Rattle.law_putback.proofs.Texts.{in_written, not_high}
-use Rattle.dangsoviey.specs.Milliseconds.{milliseconds, instant_of, stamped}
+use Rattle.dangsoviey.specs.Milliseconds.{milliseconds, instant_of, stamped, stamp}
 use Rattle.dangsoviey.specs.Back.{Back}
-use Rattle.dangsoviey.proofs.Milliseconds.{stamp_text}
 
 -- ---- z and its instant
 since : (z : ℤ) → InRange (instant_of z) → since_epoch (instant_of z) ≡ z
@@ -86,6 +85,11 @@ shows z r =
     ap fill_time (date_filled p refl refl (in_range_lem (instant_of z) r.from r.to))
     ∙ time_filled (on_date p (civil (instant_of z))) refl
     ∙ ap (λ (q : Moment). on_time q (time_of_day q.ms)) (already (on_date p (civil (instant_of z))) refl)
+
+-- what is then written
+stamp_text : (z : ℤ) → in_range (instant_of z) ≡ true → text (date_text (stamped z) ++ ascii " " ++ time_text (stamped z)) ≡ stamp z
+unfolding stamp
+stamp_text z r = rw r
 
 -- ---- the same date and time, written in full
 abbrev in_minute : ℕ → ℕ

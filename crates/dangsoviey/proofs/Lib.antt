@@ -1,4 +1,2 @@
--- Laws of whole Unix milliseconds.
-pub mod Milliseconds
--- a stamp and its milliseconds, there and back
+-- A stamp and its milliseconds, there and back.
 pub mod Back

@@ -1,9 +1,9 @@
 // Whole Unix milliseconds, for loggers: of the moment that a call is about, and as a text.
-ghost use Rattle.std.specs.Prelude.{◌≡◌, length};
+ghost use Rattle.std.specs.Prelude.{◌≡◌, ◌↔◌, true, length, IsSome, IfSome};
 ghost use Rattle.rules.specs.Calendar.{in_range};
 ghost use Rattle.rules.specs.Calls.{value_of, answered, after};
+ghost use Rattle.rules.specs.Moments as moments;
 ghost use Rattle.rules.specs.Writing.{since_epoch};
-ghost use Rattle.calendar.specs.Ranges.{InRange};
 ghost use Rattle.moment.specs.Held.{held};
 ghost use Rattle.moment.specs.Ranges.{Full};
 ghost use Rattle.datetime.specs.Given.{Gives};
@@ -12,19 +12,19 @@ ghost use Rattle.dangsoviey.specs.Milliseconds as rule;
 ghost use Rattle.dangsoviey.specs.Milliseconds.{instant_of};
 
 use crate::{Reply, given_of};
+use calendar::Instant;
 use datetime::{calls, texts};
-use moment::{Clock, Moment};
+use moment::Moment;
 use rules::{Answer, Given, Refusal, Setting, Unanswered};
 
 // The Unix epoch, as milliseconds are held.
 const UNIX_EPOCH: u64 = 9223582903614775808;
 
 // Milliseconds from 1970, with their sign.
-fn since_epoch(ms: u64) -> i64
-    requires { InRange ms }
-    ensures { result ≡ since_epoch ms }
+fn since_epoch(at: Instant) -> i64
+    ensures { result ≡ since_epoch at.ms }
 {
-    ms.wrapping_sub(UNIX_EPOCH).cast_signed()
+    at.ms.wrapping_sub(UNIX_EPOCH).cast_signed()
 }
 
 #[tactic(auto, unfolding(crate::specs::Milliseconds::milliseconds, rules::specs::Calls::answered))]
@@ -37,7 +37,7 @@ fn milliseconds(
     ensures { result ≡ answered (rule.milliseconds set (value_of given value.now) modifiers.now) 0 }
 {
     let p = calls::moment_of(set, given, value, modifiers)?;
-    Ok(Answer::Integer(since_epoch(p.ms)))
+    Ok(Answer::Integer(since_epoch(Instant { ms: p.ms })))
 }
 
 // The moment that a call is about, as whole milliseconds from 1970-01-01 UTC: an integer.
@@ -58,33 +58,28 @@ pub extern "C" fn dangsoviey_milliseconds(
     milliseconds(set, at, value, modifiers).into()
 }
 
-// Whether milliseconds from 1970 are those of the millisecond 0 to the last.
-fn in_range(ms: i64) -> bool
-    ensures { result ≡ in_range (instant_of ms) }
+// The instant so many milliseconds from 1970, if the millisecond 0 to the last has it.
+fn instant(ms: i64) -> Option<Instant>
+    ensures some { IsSome result ↔ (in_range (instant_of ms) ≡ true) }
+    ensures value { IfSome result (λ at. at.ms ≡ instant_of ms) }
 {
-    -210866760000000 <= ms && ms <= 253402300799999
+    Instant::new(UNIX_EPOCH.saturating_add_signed(ms))
 }
 
-// The record of an instant in range, with subsec, all its fields filled.
-fn stamped(ms: i64) -> Moment
-    requires { InRange (instant_of ms) }
-    ensures { (held result ≡ rule.stamped ms) × Full (held result) }
+// Its record, with subsec, all its fields filled.
+fn stamped(at: Instant) -> Moment
+    ensures value { held result ≡ moments.fill (moments.set_subsec (moments.set_utc (moments.counted moments.blank at.ms)) true) }
+    ensures full { Full (held result) }
 {
-    Moment::blank()
-        .now(Clock { ms: 0 })
-        .by_length(ms)
-        .with_subsec()
-        .fill()
+    Moment::at(at).with_subsec().fill()
 }
 
-#[tactic(auto, unfolding(crate::specs::Milliseconds::stamp, rules::specs::Calls::answered, rules::specs::Calls::after))]
+#[tactic(auto, unfolding(crate::specs::Milliseconds::stamp, crate::specs::Milliseconds::stamped, rules::specs::Calls::answered, rules::specs::Calls::after))]
 fn stamp(ms: i64, out: &mut [u8]) -> Result<Answer, Unanswered>
     ensures { Gives (rule.stamp ms) out.old out.new result }
 {
-    if !in_range(ms) {
-        return Err(Refusal::Null.into());
-    }
-    texts::datetime(stamped(ms), out)
+    let at = instant(ms).ok_or(Refusal::Null)?;
+    texts::datetime(stamped(at), out)
 }
 
 // YYYY-MM-DD HH:MM:SS.SSS of a count of milliseconds from 1970-01-01 UTC.

@@ -1,5 +1,5 @@
 -- The answers of the lines that end in a block, one line after another. Assumes nothing.
-use Rattle.std.proofs.Common.{◌≡◌, ℕ, suc, ◌+◌, ◌-◌, ◌<◌, Bool, true, false, List, [], ◌∷◌, ◌++◌, length, refl, sym, ap, ◌∙◌, append_assoc, arith, length-append}
+use Rattle.std.proofs.Common.{◌≡◌, ℕ, Bool, true, false, List, [], ◌∷◌, ◌++◌, length, refl, sym, ap, ◌∙◌, append_assoc, arith, length-append}
 use Rattle.std.specs.Prelude.{Some, None, if◌then◌else◌}
 use Rattle.rules.specs.Basics.{parts, on_first}
 use Rattle.rules.specs.Program.{line}
@@ -7,7 +7,7 @@ use Rattle.rules.specs.declared.Setting.{Setting}
 use Rattle.text.specs.Places.{IsCut}
 use Rattle.text.proofs.Cuts.{parts_cut}
 use Rattle.digits.specs.Writers.{Laid}
-use Rattle.digits.proofs.Buffer.{laid_then, laid_length}
+use Rattle.digits.proofs.Buffer.{laid_then}
 use Rattle.dates.specs.Answers.{is_newline, line_text, ended, ended_in, last_of, last_in, onto, last_after, Answered, Answers}
 use Rattle.dates.specs.Buffers.{HasRoom}
 

@@ -15,9 +15,9 @@ kept old part used k {new} {t} {next} long few same laid =
     let rest = drop (used + length t) old in
     let size : length (take used old ++ t) ≡ used + length t = length-append (take used old) t ∙ ap (λ n. n + length t) front in
     let to : take next new ≡ take used old ++ t =
-      rw (laid.place, laid.bytes, sets-eq t old used fits)
-      (subst (λ n. take n ((take used old ++ t) ++ rest) ≡ take used old ++ t) size (take-append_seam (take used old ++ t) rest)) in
+    rw (laid.place, laid.bytes, sets-eq t old used fits)
+    (subst (λ n. take n ((take used old ++ t) ++ rest) ≡ take used old ++ t) size (take-append_seam (take used old ++ t) rest)) in
     let from : take (length new) (take used old ++ part) ≡ take used old ++ take k part =
-      rw (laid_length laid, long)
-      (subst (λ n. take (n + k) (take used old ++ part) ≡ take used old ++ take k part) front (take-append-add (take used old) part k)) in
+    rw (laid_length laid, long)
+    (subst (λ n. take (n + k) (take used old ++ part) ≡ take used old ++ take k part) front (take-append-add (take used old) part k)) in
     to ∙ ap (λ s. take used old ++ s) same ∙ sym from

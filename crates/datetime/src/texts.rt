@@ -8,7 +8,6 @@ ghost use Rattle.rules.specs.Functions.{outcome_of};
 ghost use Rattle.rules.specs.Writing as rule;
 ghost use Rattle.rules.specs.declared.Function.{Function};
 ghost use Rattle.rules.specs.declared.Unanswered.{Unanswered};
-ghost use Rattle.calendar.specs.Ranges.{InRange};
 ghost use Rattle.moment.specs.Held.{held};
 ghost use Rattle.moment.specs.Ranges.{Full};
 ghost use Rattle.datetime.specs.Given.{Gives, formatted_of};
@@ -72,7 +71,6 @@ pub fn difference(a: Instant, b: Instant, out: &mut [u8]) -> Result<Answer, Unan
 // Seconds since the Unix epoch. With subsec: an f64.
 #[tactic(auto, unfolding(rules::specs::Calls::answered, rules::specs::Functions::outcome_of))]
 pub fn unix(p: Moment) -> Answer
-    requires { InRange p.ms }
     ensures { Ok result ≡ answered (outcome_of Function.Unixepoch [] (held p)) 0 }
 {
     if p.subsec {

@@ -37,9 +37,6 @@ pub refused : (p : Moment) (y : Read rule.Moment) (n : Refusal) → y ≡ refuse
 refused p y n e = record { is = sym e; after = λ n a. tt }
 
 -- the same, as the rules say it
-pub answered_as : {p : Moment} {s : Result Moment Refusal} {x : Read rule.Moment} (y : Read rule.Moment) → y ≡ x → Answered p s x → Answered p s y
-answered_as y e a = record { is = a.is ∙ sym e; after = a.after }
-
 pub stepped_as : {p : Moment} {s : Result Moment Refusal} {x : Read rule.Moment} (y : Read rule.Moment) → y ≡ x → Stepped p s x → Stepped p s y
 stepped_as y e a = record { is = a.is ∙ sym e; after = a.after }
 

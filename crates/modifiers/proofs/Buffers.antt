@@ -1,5 +1,5 @@
 -- The buffer, byte by byte: what refuses it. Assumes nothing.
-use Rattle.std.proofs.Common.{if◌then◌else◌, ◌≡◌, ℕ, suc, ◌+◌, ◌<◌, ◌≤◌, Bool, true, false, not, ◌&&◌, ◌||◌, eqb, ltb, ◌≢◌, List, [], ◌∷◌, length, get_or, drop, refl, ap, zero-add, add-one, arith, drop_of_length-le, drop-cons, le-ltb, lt-ltb, ne_eqb, le-leb}
+use Rattle.std.proofs.Common.{if◌then◌else◌, ◌≡◌, ℕ, suc, ◌+◌, ◌<◌, ◌≤◌, Bool, true, false, not, ◌&&◌, ◌||◌, eqb, ltb, ◌≢◌, List, [], ◌∷◌, length, get_or, drop, refl, zero-add, add-one, arith, drop_of_length-le, drop-cons, le-ltb, lt-ltb, ne_eqb, le-leb}
 use borrow.Author.Tests.{lt-leb}
 use Rattle.rules.specs.Basics.{every, on_first}
 use Rattle.rules.specs.Calls.{modifiers, last_ended, over, modifiers_bad, high}
@@ -8,9 +8,6 @@ use Rattle.rules.specs.declared.Refusal.{Refusal}
 use Rattle.modifiers.specs.Buffer.{allowed_by, allowed}
 
 -- ---- tests
-
-never : {A : Type 0} → true ≡ false → A
-never h = let q : ◌≡◌ {A = ℕ} 0 1 = ap (λ (b : Bool). if b then 0 else 1) h in absurd (omega arith)
 
 or_true : (t : Bool) → t || true ≡ true
 or_true true = refl
@@ -46,11 +43,6 @@ bad_start [] = refl
 bad_start (b ∷ s) = rw (none_before (modifiers (b ∷ s)), zero-add (length (modifiers (b ∷ s))))
 
 -- a zero byte ends a modifier
-ended_zero : (s : List ℕ) → last_ended (0 ∷ s) ≡ last_ended s
-unfolding last_ended
-ended_zero [] = refl
-ended_zero (c ∷ s) = refl
-
 bad_zero : (n k : ℕ) (s : List ℕ) → n < 16 → k ≤ 255 → bad_from n k (0 ∷ s) ≡ bad_from (n + 1) 0 s
 unfolding modifiers last_ended every
 bad_zero n k [] h l = rw (le-ltb 16 (n + 1) (omega arith), le-ltb 255 (k + 0) (omega arith))

@@ -298,6 +298,16 @@ impl Moment {
         if t.utc { p.known_utc() } else { p }
     }
 
+    // A record of which that instant is known, and that it is UTC.
+    pub fn at(instant: Instant) -> Moment
+        ensures { (held result ≡ rule.set_utc (rule.counted rule.blank instant.ms)) × After 0 (held result) }
+    {
+        let mut p = Moment::blank();
+        p.ms = instant.ms;
+        p.counted = true;
+        p.known_utc()
+    }
+
     // The clock, which is UTC.
     pub fn now(mut self, clock: Clock) -> Moment
         ensures { Filled self result (reading.now clock.ms (held self)) }

@@ -3,7 +3,6 @@ use Prim.Native.Nat.{ℕ, ◌+◌, ◌≤◌, ◌<◌}
 use mathlib.Core.Bool.{true, false}
 use mathlib.Core.Logic.{◌≢◌}
 use mathlib.Core.Path.{◌≡◌}
-use native.Mathlib.Decide.{dec_le}
 use native.Mathlib.Omega.{arith}
 use lib.Dec.{leb}
 use borrow.Author.Tests.{ne_eqb, leb-true, le-leb}
@@ -20,11 +19,3 @@ digit_byte d h = rw (le-leb 48 (48 + d) (omega arith), le-leb (48 + d) 57 (omega
 
 pub not_space : (b : ℕ) → (b ≢ 9) × (b ≢ 10) × (b ≢ 12) × (b ≢ 13) × (b ≢ 32) → space b ≡ false
 not_space b (h, i, j, k, l) = rw (ne_eqb b 9 h, ne_eqb b 10 i, ne_eqb b 12 j, ne_eqb b 13 k, ne_eqb b 32 l)
-
--- one of two neighbours
-pub space_two : (b n : ℕ) → n ≤ b → b ≤ n + 1 → space n ≡ true → space (n + 1) ≡ true → space b ≡ true
-space_two b n l h p q = go (dec_le b n)
-  where
-    go : Dec (b ≤ n) → space b ≡ true
-    go (yes k) = let e : b ≡ n = omega arith in rw e p
-    go (no k) = let e : b ≡ n + 1 = omega (arith, k) in rw e q

@@ -29,19 +29,16 @@ digits_on-short zero v l h = absurd (omega arith)
 digits_on-short (suc n) v [] h = refl
 digits_on-short (suc n) v (b ∷ l) h = rw (digits_on-short n (v * 10 + (b - 48)) l (omega arith)) (either_other (is_digit b))
 
-module _ (n v : ℕ) (s : List ℕ) (h : 0 < n) where
-  pub digit_none : length s ≡ 0 → digits_on n v s ≡ other
-  digit_none e = digits_on-short n v s (omega arith)
+module _ (n v : ℕ) (s : List ℕ) (h : 0 < n) (b : ℕ) (t : List ℕ) (e : s ≡ b ∷ t) where
+  pub digit_on : (m : ℕ) → m + 1 ≡ n → is_digit b ≡ true → digits_on n v s ≡ digits_on m (v * 10 + (b - 48)) t
+  unfolding digits_on
+  digit_on m k d = let p : n ≡ suc m = omega arith in rw (p, e, d)
 
-  module _ (b : ℕ) (t : List ℕ) (e : s ≡ b ∷ t) where
-    pub digit_on : (m : ℕ) → m + 1 ≡ n → is_digit b ≡ true → digits_on n v s ≡ digits_on m (v * 10 + (b - 48)) t
-    unfolding digits_on
-    digit_on m k d = let p : n ≡ suc m = omega arith in rw (p, e, d)
+  pub digit_stop : is_digit b ≡ false → digits_on n v s ≡ other
+  unfolding digits_on
+  digit_stop d = let p : n ≡ suc (n - 1) = omega arith in rw (p, e, d)
 
-    pub digit_stop : is_digit b ≡ false → digits_on n v s ≡ other
-    unfolding digits_on
-    digit_stop d = let p : n ≡ suc (n - 1) = omega arith in rw (p, e, d)
-
+-- the number so far, and with one digit more
 pub more : (v b k : ℕ) → v < 10 ^ k → is_digit b ≡ true → v * 10 + (b - 48) < 10 ^ (k + 1)
 more v b k h d = let p = digit_bounds b d in rw (add-one, pow-suc) (omega arith)
 
@@ -123,11 +120,6 @@ module _ (s : List ℕ) (b : ℕ) (t : List ℕ) (h : s ≡ b ∷ t) where
   pub run_stop : is_digit b ≡ false → run s ≡ ([], s)
   unfolding run
   run_stop e = rw (h, e)
-
-pub run_none : (s : List ℕ) → length s ≡ 0 → run s ≡ ([], s)
-unfolding run
-run_none [] h = refl
-run_none (b ∷ s) h = absurd (omega arith)
 
 -- ---- digits that were written read back
 digits_on-written : (n w v : ℕ) (t : List ℕ) → digits_on n w (places n v ++ t) ≡ got (w * 10 ^ n + v % 10 ^ n, t)

@@ -1,9 +1,6 @@
 -- Tests and their truth values. Assumes nothing.
-use Prim.Native.Nat.{ℕ}
 use mathlib.Core.Bool.{Bool, true, false, ◌&&◌}
-use mathlib.Core.Path.{◌≡◌, refl, sym}
-use lib.Dec.{eqb}
-use borrow.Author.Tests.{eq-eqb, ne_eqb, eqb-true, eqb-false}
+use mathlib.Core.Path.{◌≡◌, refl}
 
 pub and_true : (t : Bool) → t && true ≡ t
 and_true true = refl
@@ -21,10 +18,3 @@ pub and_right : (t u : Bool) → t && u ≡ true → u ≡ true
 and_right true u h = h
 and_right false true h = refl
 and_right false false h = h
-
-pub eqb_flip : (a b : ℕ) → eqb a b ≡ eqb b a
-eqb_flip a b = go (eqb b a) refl
-  where
-    go : (t : Bool) → eqb b a ≡ t → eqb a b ≡ t
-    go true h = eq-eqb a b (sym (eqb-true b a h))
-    go false h = ne_eqb a b (λ e. eqb-false b a h (sym e))

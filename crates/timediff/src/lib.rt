@@ -30,7 +30,7 @@ pub struct Span {
     pub rest: u64,
 }
 
-// Where the back-off stops: the months of the shift, and the instant to which they move B.
+// Where the back-off stops: the months of the shift, and the millisecond to which they move B.
 #[derive(Clone, Copy)]
 struct Shift {
     months: u32,
@@ -67,7 +67,7 @@ fn in_month(month: u32, day: u32, time: u32) -> u64
     calendar::midnight(date) + u64::from(time)
 }
 
-// Whether an instant lies past A.
+// Whether a millisecond lies past A.
 fn is_past(plus: bool, a: u64, at: u64) -> bool
     ensures { result ≡ past plus a at }
 {

@@ -1,4 +1,4 @@
-use Rattle.std.proofs.Common.{◌≡◌, ◌≤◌, ℕ, length, ◌∙◌}
+use Rattle.std.proofs.Common.{◌≡◌, length, ◌∙◌}
 use Rattle.rules.specs.Program.{line}
 use Rattle.lines.proofs.Short.{line_short}
 use Rattle.dates.proofs.Laying.{answer_length, answer_after}

@@ -1,3 +1,4 @@
+-- `modifiers::modified` meets its contract.
 use Rattle.std.proofs.Common.{rules, ◌≡◌, sym}
 use Rattle.std.proofs.lemmas.Result.{err_from_is_err_and}
 use Rattle.std.specs.Prelude.{None}

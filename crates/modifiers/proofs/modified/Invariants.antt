@@ -1,3 +1,4 @@
+-- The modifiers of the rest, applied to the record so far, bring what all of them bring.
 use Rattle.std.proofs.Common.{length}
 use Rattle.moment.specs.Held.{held}
 use Rattle.modifiers.proofs.Walks.{Going}

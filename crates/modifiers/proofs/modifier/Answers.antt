@@ -1,3 +1,4 @@
+-- `modifiers::modifier` meets its contract.
 use Rattle.std.proofs.Common.{sym, ap, ◌∙◌, arith}
 use Rattle.std.proofs.lemmas.Result.{err_from_is_err_and}
 use Rattle.rules.specs.Basics.{got, refuse, ◌or◌}

@@ -1,3 +1,4 @@
+-- `reading::date` meets its contract.
 use mathlib.Core.Path.{sym, ◌∙◌}
 use Rattle.reading.proofs.Dates.{minus_read, minus_not_read}
 use Rattle.reading.proofs.date.Goals as goal

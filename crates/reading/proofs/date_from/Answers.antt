@@ -1,3 +1,4 @@
+-- `reading::date_from` meets its contract.
 use native.Mathlib.Omega.{arith}
 use Rattle.text.specs.Places.{gap}
 use Rattle.text.proofs.Runs.{skip_le}

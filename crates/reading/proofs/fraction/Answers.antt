@@ -1,3 +1,4 @@
+-- `reading::fraction` meets its contract.
 use native.Mathlib.Omega.{arith}
 use Rattle.std.proofs.lemmas.Grind.{common_steps}
 use Rattle.rules.specs.Reading.{fraction}

@@ -1,3 +1,4 @@
+-- `reading::seconds` meets its contract.
 use native.Mathlib.Omega.{arith}
 use Rattle.real.proofs.Literals.{nil}
 use Rattle.reading.proofs.Fractions.{zero_minute, minute}

@@ -1,3 +1,4 @@
+-- `text::cut` meets its contract.
 use mathlib.Core.Path.{sym, ◌∙◌}
 use Rattle.text.proofs.Cuts.{found, none}
 use Rattle.text.proofs.cut.Goals as goal

@@ -1,3 +1,4 @@
+-- The digits that are left, after those whose number is v, bring the number of all of them.
 use Prim.Native.Nat.{◌-◌, ◌^◌, ◌<◌}
 use lib.ListN.{drop}
 use mathlib.Core.Path.{◌≡◌}

@@ -1,3 +1,4 @@
+-- `text::is_ascii` meets its contract.
 use mathlib.Core.Path.{sym}
 use Rattle.text.proofs.Runs.{every_on, every_past}
 use Rattle.text.proofs.is_ascii.Goals as goal

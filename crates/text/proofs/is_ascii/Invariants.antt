@@ -1,3 +1,4 @@
+-- The answer is that of the bytes so far, and of those from here on.
 use mathlib.Core.Bool.{◌&&◌}
 use mathlib.Core.Path.{◌≡◌}
 use lib.Dec.{leb}

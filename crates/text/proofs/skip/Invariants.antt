@@ -1,3 +1,4 @@
+-- What is skipped of all is what is skipped of the bytes that are left.
 use mathlib.Core.Path.{◌≡◌}
 use lib.ListN.{length}
 use Rattle.rules.specs.Basics.{skip}

@@ -1,3 +1,4 @@
+-- `text::starts` meets its contract.
 use Rattle.std.proofs.Common.{rules, tests, ◌∙◌, eqb}
 use Rattle.std.proofs.lemmas.Iterator.{YieldsList-from_zip, YieldsList-from_slice}
 use Rattle.std.proofs.lemmas.Iterator.Search.{all_from_yields_List}

@@ -1,3 +1,4 @@
+-- What is trimmed of all is what is trimmed of the bytes that are left.
 use mathlib.Core.Path.{◌≡◌}
 use lib.ListN.{length}
 use Rattle.rules.specs.Basics.{trim_end}

@@ -1,11 +1,16 @@
 -- `dangsoviey::stamps::stamped` meets its contract.
-use mir.Syntax.{w64}
-use mir.ValLaws.{to_z-of_z}
-use Rattle.dangsoviey.proofs.Milliseconds.{fresh_is, stamped_is}
+use Prim.Native.Nat.{ℕ}
+use mathlib.Core.Bool.{true}
+use mathlib.Core.Path.{◌≡◌, sym, ap, ◌∙◌, subst}
+use Rattle.rules.specs.Moments.{Moment, blank, counted, set_utc, set_subsec, fill}
+use Rattle.calendar.specs.Ranges.{InRange}
+use Rattle.moment.specs.Ranges.{After, Full}
+use Rattle.moment.proofs.Bounds.{fill_full}
 use Rattle.dangsoviey.proofs.stamps.stamped.Goals as goal
 
-pub returns : goal.returns
-returns c = let z = c.args.ms in
-    stamped_is z c.requires (c.with_subsec.ensures.after 1 (c.by_length.ensures.after 0 (c.now.ensures.after 0 c.blank.ensures.1)))
-    (fresh_is z c.blank.ensures.0 c.now.ensures.is (rw (to_z-of_z w64 _ c.ranges.ms) at c.by_length.ensures.is) c.with_subsec.ensures.is)
-    c.fill.ensures.is
+-- the record of an instant, filled, can be written
+full : (t : ℕ) {p q : Moment} → InRange t → After 0 p → p ≡ set_subsec (set_utc (counted blank t)) true → q ≡ fill p → Full q
+full t {p} r a k h = subst (λ (x : Moment). Full x) (sym h) (fill_full 0 p a (record { ranged = subst (λ (x : Moment). InRange x.ms) (sym k) r; stands = ap (λ (x : Moment). x.counted) k }))
+
+pub returns-clause-full : goal.returns-clause-full
+returns-clause-full c = full c.args.at.ms c.args.at.in_range (c.with_subsec.ensures.after 0 c.at.ensures.1) (c.with_subsec.ensures.is ∙ ap (λ (p : Moment). set_subsec p true) c.at.ensures.0) c.fill.ensures.is

@@ -1,4 +1,4 @@
-use Rattle.std.proofs.Common.{◌+◌, ◌-◌, ◌≤◌, arith}
+use Rattle.std.proofs.Common.{arith}
 use Rattle.lines.proofs.Short.{line_short}
 use Rattle.digits.proofs.Buffer.{laid_then}
 use Rattle.dates.proofs.Laying.{part_laid}

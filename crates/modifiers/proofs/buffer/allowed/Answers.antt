@@ -1,3 +1,4 @@
+-- `modifiers::buffer::allowed` meets its contract.
 use Rattle.std.proofs.Common.{sym, ◌∙◌, arith}
 use Rattle.modifiers.proofs.Buffers.{allowed_start, zero_on, too_many, byte_on, high_byte, too_long_byte, not_ended, all_ended}
 use Rattle.modifiers.proofs.buffer.allowed.Goals as goal

@@ -1,3 +1,4 @@
+-- The answer is that of the bytes from here on, where so many modifiers are ended, so many bytes of one stand before, and one of them may be high.
 use Rattle.std.proofs.Common.{◌≡◌, ◌≤◌, drop}
 use Rattle.modifiers.specs.Buffer.{allowed}
 use Rattle.modifiers.proofs.Buffers.{allowed_from}

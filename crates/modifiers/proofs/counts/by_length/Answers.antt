@@ -1,3 +1,4 @@
+-- `modifiers::counts::by_length` meets its contract.
 use Rattle.std.proofs.Common.{sym, ap, ◌∙◌, w64}
 use mir.ValLaws.{to_z-of_z}
 use Rattle.moment.specs.Held.{held}

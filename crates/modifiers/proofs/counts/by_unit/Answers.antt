@@ -1,3 +1,4 @@
+-- `modifiers::counts::by_unit` meets its contract.
 use Rattle.std.proofs.Common.{sym, ◌∙◌}
 use Rattle.modifiers.proofs.Forms.{reaches}
 use Rattle.modifiers.proofs.counts.by_unit.Goals as goal

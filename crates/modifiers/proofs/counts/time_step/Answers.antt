@@ -1,3 +1,4 @@
+-- `modifiers::counts::time_step` meets its contract.
 use Rattle.std.proofs.Common.{sym, ap, ◌∙◌, w64}
 use mir.ValLaws.{to_z-of_z}
 use Rattle.rules.specs.Basics.{refuse, ◌or◌}

@@ -1,3 +1,4 @@
+-- `modifiers::steps::on_day` meets its contract.
 use Rattle.std.proofs.Common.{◌≡◌, ℕ, ◌≤◌, true, ◌&&◌, sym, ap, ◌∙◌, arith}
 use lib.Ieee.{Float, le, eq}
 use Rattle.rules.specs.Floats.{number, whole, within}

@@ -1,3 +1,4 @@
+-- `modifiers::steps::weekday` meets its contract.
 use Rattle.std.proofs.Common.{ap, ◌∙◌}
 use Rattle.std.proofs.lemmas.Result.{err_from_is_err_and}
 use Rattle.rules.specs.Decimal.{decimal}

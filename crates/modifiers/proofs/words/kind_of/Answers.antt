@@ -1,3 +1,4 @@
+-- `modifiers::words::kind_of` meets its contract.
 use Rattle.std.proofs.Common.{sym, ◌∙◌, arith}
 use Rattle.modifiers.specs.declared.words.Kind.{Kind}
 use Rattle.modifiers.proofs.Letters.{chosen, kind_none, kind_a, kind_c, kind_f, kind_j, kind_l, kind_s_lem, kind_u_lem, kind_w, kind_rest}

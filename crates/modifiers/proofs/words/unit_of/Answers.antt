@@ -1,3 +1,4 @@
+-- `modifiers::words::unit_of` meets its contract.
 use Rattle.std.proofs.Common.{sym, ◌∙◌, arith}
 use Rattle.modifiers.specs.declared.words.Unit.{Unit}
 use Rattle.modifiers.proofs.Letters.{chosen, unit_none, unit_d, unit_h, unit_m_lem, unit_s, unit_y, unit_rest}
