@@ -1,6 +1,6 @@
 -- What is given and what comes back, as plain numbers.
 use Rattle.std.specs.Prelude.{if◌then◌else◌, ℕ, eqb, ℤ, pos, Float, Result, Ok, Err}
-use Rattle.rules.specs.Calls.{number_of}
+use Rattle.rules.specs.Calls.{refusal_of}
 use Rattle.rules.specs.Floats.{number}
 use Rattle.rules.specs.declared.Answer.{Answer}
 use Rattle.rules.specs.declared.Given.{Given}
@@ -20,5 +20,5 @@ abbrev pub reply_of : Result Answer Unanswered → Reply
 reply_of (Ok (Answer.Text n)) = record { kind = 1; refusal = 0; length = n; integer = pos 0; real = number 0 }
 reply_of (Ok (Answer.Integer n)) = record { kind = 2; refusal = 0; length = 0; integer = n; real = number 0 }
 reply_of (Ok (Answer.Real x)) = record { kind = 3; refusal = 0; length = 0; integer = pos 0; real = x }
-reply_of (Err (Unanswered.Refused r)) = record { kind = 0; refusal = number_of r; length = 0; integer = pos 0; real = number 0 }
-reply_of (Err (Unanswered.NoRoom n)) = record { kind = 0; refusal = 7; length = n; integer = pos 0; real = number 0 }
+reply_of (Err (Unanswered.Refused r)) = record { kind = 0; refusal = refusal_of (Err (Unanswered.Refused r)); length = 0; integer = pos 0; real = number 0 }
+reply_of (Err (Unanswered.NoRoom n)) = record { kind = 0; refusal = refusal_of (Err (Unanswered.NoRoom n)); length = n; integer = pos 0; real = number 0 }

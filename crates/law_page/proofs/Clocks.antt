@@ -20,7 +20,7 @@ use Rattle.reading.proofs.Places.{Stops, digits_places, run_digits}
 use Rattle.reading.proofs.Fractions.{no_point}
 use Rattle.reading.proofs.Stamps.{digits_of}
 use Rattle.reading.proofs.Times.{time_of_lem}
-use Rattle.reading.proofs.Zones.{no_zone_lem, hour_and_minute, minutes, zone_upper, zone_east, zone_west, east_by, west_by}
+use Rattle.reading.proofs.Zones.{east_by, west_by, no_zone_lem, hour_and_minute, minutes, zone_upper, zone_east, zone_west}
 use Rattle.law_putback.proofs.Seconds.{as_read}
 use Rattle.law_page.specs.Stands.{ClockIs}
 use Rattle.law_page.specs.Numerals.{digits_text}

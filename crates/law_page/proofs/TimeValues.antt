@@ -47,9 +47,9 @@ use Rattle.law_page.proofs.Clocks.{held, is_utc, zulu_is, hour_of, time_of, from
 pub leads_as : {r s : _} → r ≡ s → {t : ℕ} → Leads s t → Leads r t
 leads_as e L = record { moment = L.moment; reads = e ∙ L.reads; stands = L.stands }
 
--- a zone is taken off at once
-settled_counts : (p : Moment) → (p.zone ≡ no_zone → ⊥) → count_ms p ≡ settled p
-settled_counts p z = rw (ne_eqb p.zone no_zone z)
+-- with a zone it is the milliseconds alone that stand
+settled_count : (p : Moment) → (p.zone ≡ no_zone → ⊥) → count_ms p ≡ settled p
+settled_count p z = rw (ne_eqb p.zone no_zone z)
 
 -- ---- the record of a date and a time
 module _ (y m d : ℕ) (tm : Time) where
@@ -86,8 +86,8 @@ module _ (y m d : ℕ) (tm : Time) where
 
     zoned : (u : Bool) → (tm.zone ≡ no_zone → ⊥) → set_utc (clear (counted (dated u) zulu)) ≡ settled (dated u)
     unfolding past_end
-    zoned true z = sums_zoned (dated true) zulu tm.zone z ∙ count_sums (dated true) _ _ zulu refl refl refl refl takes ∙ settled_counts (dated true) z
-    zoned false z = sums_zoned (dated false) zulu tm.zone z ∙ count_sums (dated false) _ _ zulu refl refl refl refl takes ∙ settled_counts (dated false) z
+    zoned true z = sums_zoned (dated true) zulu tm.zone z ∙ count_sums (dated true) _ _ zulu refl refl refl refl takes ∙ settled_count (dated true) z
+    zoned false z = sums_zoned (dated false) zulu tm.zone z ∙ count_sums (dated false) _ _ zulu refl refl refl refl takes ∙ settled_count (dated false) z
 
     zone_is : (u : Bool) → (dated u).zone ≡ tm.zone
     unfolding past_end

@@ -1,16 +1,14 @@
 -- From the fields of a line to what comes of its call. Assumes nothing.
 use Prim.Native.Nat.{ℕ, ◌+◌, ◌≤◌}
-use mathlib.Core.Bool.{true, false, not}
+use mathlib.Core.Bool.{true, false}
 use mathlib.Core.Path.{◌≡◌, refl, ap, ◌∙◌}
 use mathlib.Core.List.{List, [], ◌∷◌, ◌++◌}
 use native.Mathlib.Nat.{zero-add}
 use native.Mathlib.Omega.{arith}
-use borrow.Author.Tests.{leb-true}
-use lib.Dec.{eqb, leb}
 use lib.ListN.{length, take, drop}
 use lib.Seq.{sets, sets-eq, length-sets, take_at}
 use Rattle.std.specs.Prelude.{Option, Some, None, Result, Err}
-use Rattle.rules.specs.Basics.{every, parts, Read, got, other, ◌>>=◌}
+use Rattle.rules.specs.Basics.{Read, other, ◌>>=◌}
 use Rattle.rules.specs.Calls.{Call, bytes, call, strftime, timediff, answered, after}
 use Rattle.rules.specs.Functions.{answer}
 use Rattle.rules.specs.Program.{buffered, general_call, strftime_call, timediff_call, fields_call, line_call}
@@ -20,10 +18,9 @@ use Rattle.rules.specs.declared.Refusal.{Refusal}
 use Rattle.rules.specs.declared.Setting.{Setting}
 use Rattle.rules.specs.declared.Unanswered.{Unanswered}
 use Rattle.text.specs.Places.{IsCut}
-use Rattle.text.proofs.Tests.{and_left}
 use Rattle.digits.specs.Writers.{Laid}
 use Rattle.datetime.specs.Given.{Gives}
-use Rattle.lines.specs.Fields.{is_tab, fields_of, following, plain, laid_out, outcome}
+use Rattle.lines.specs.Fields.{fields_of, following, plain, laid_out, outcome}
 use Rattle.lines.specs.Names.{named, call_of}
 use Rattle.lines.specs.declared.names.Name.{Name}
 use Rattle.lines.proofs.Parts.{cut_fields, parts_some, length_buffered}

@@ -10,7 +10,7 @@ use lib.Dec.{eqb, ltb, leb}
 use lib.IntN.{ℤ, pos, neg_ℤ}
 use lib.ListN.{length, get_or, drop}
 use lib.Seq.{drop-cons}
-use Rattle.std.specs.Prelude.{Option, Some, None}
+use Rattle.std.specs.Prelude.{Option, Some}
 use Rattle.rules.specs.Basics.{is_digit, Read, got, other, refuse, ◌>>=◌, ◌or◌, only_if, ended, byte}
 use Rattle.rules.specs.Calls.{far_off, bad_setting}
 use Rattle.rules.specs.Decimal.{run, value, some}
@@ -19,7 +19,7 @@ use Rattle.rules.specs.declared.Setting.{Setting}
 use Rattle.text.specs.Places.{after_byte, IsCut}
 use Rattle.text.proofs.Numbers.{run_on, run_stop}
 use Rattle.text.proofs.Reading.{byte_after}
-use Rattle.lines.specs.Fields.{is_tab, fields_of}
+use Rattle.lines.specs.Fields.{fields_of}
 use Rattle.lines.specs.First.{up_to, near}
 use Rattle.lines.proofs.Parts.{cut_fields, parts_some}
 

@@ -16,7 +16,7 @@ use Rattle.digits.proofs.Buffer.{sets_append}
 use Rattle.rules.specs.Basics.{every, parts, on_first}
 use Rattle.rules.specs.Program.{buffered}
 use Rattle.text.specs.Places.{IsCut}
-use Rattle.text.proofs.Cuts.{parts_of, parts_cut, cut_length}
+use Rattle.text.proofs.Cuts.{parts_cut, cut_length}
 use Rattle.lines.specs.Fields.{is_tab, fields_of, following}
 
 -- ---- the first field stands before the next tab, and the others are those of what follows it

@@ -5,7 +5,6 @@ use mathlib.Core.Bool.{Bool, true, false}
 use mathlib.Core.Path.{◌≡◌, refl, ◌∙◌}
 use mathlib.Core.List.{List, ◌++◌}
 use lib.Dec.{leb}
-use lib.IntN.{ℤ}
 use lib.ListN.{length, drop}
 use Rattle.rules.specs.Calls.{Outcome, text, integer, real, refused, answered, after}
 use Rattle.rules.specs.Program.{shown}
@@ -13,10 +12,6 @@ use Rattle.rules.specs.declared.Answer.{Answer}
 use Rattle.rules.specs.declared.Unanswered.{Unanswered}
 use Rattle.datetime.specs.Given.{Gives}
 use Rattle.lines.specs.Shown.{shown_answer, shown_after}
-
--- an integer by another name
-pub integer_as : {z n : ℤ} {old new : List ℕ} {r : Result Answer Unanswered} → z ≡ n → Gives (text (shown (integer z))) old new r → Gives (text (shown (integer n))) old new r
-integer_as e g = rw e at g
 
 -- ---- an outcome's text is what its answer is shown as
 pub shown_answer_lem : (o : Outcome) (room : ℕ) → shown_answer (answered o room) room ≡ answered (text (shown o)) room

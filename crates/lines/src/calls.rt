@@ -12,12 +12,7 @@ use crate::names::{self, Name};
 use rules::{Answer, Function, Given, Refusal, Setting, Unanswered};
 
 // A line that is no call is refused, by 2: it is too long, holds a zero byte or names no function.
-pub fn asked(
-    set: Setting,
-    s: &[u8],
-    room: &mut [u8],
-    out: &mut [u8],
-) -> Result<Answer, Unanswered>
+pub fn asked(set: Setting, s: &[u8], room: &mut [u8], out: &mut [u8]) -> Result<Answer, Unanswered>
     requires { 8192 ≤ length room.old }
     ensures gives { Gives (outcome set (line_call s.now)) out.old out.new result }
     ensures room_after { room.new ≡ laid_out (line_call s.now) room.old }
@@ -51,7 +46,13 @@ fn general(
     call(set, f, value, &room[..n], out)
 }
 
-fn call(set: Setting, f: Function, value: &[u8], modifiers: &[u8], out: &mut [u8]) -> Result<Answer, Unanswered>
+fn call(
+    set: Setting,
+    f: Function,
+    value: &[u8],
+    modifiers: &[u8],
+    out: &mut [u8],
+) -> Result<Answer, Unanswered>
     ensures { Gives (answer set (rule.call f (rule.bytes value.now) modifiers.now)) out.old out.new result }
 {
     match f {

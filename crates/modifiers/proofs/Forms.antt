@@ -13,6 +13,7 @@ use Rattle.rules.specs.declared.Refusal.{Refusal}
 use Rattle.rules.specs.declared.Time.{Time}
 use Rattle.real.specs.StepMost.{step_most}
 use Rattle.real.proofs.Units.{days_ms, hours_ms, minutes_ms, seconds_ms_lem, months_ms, years_ms, months_cut, years_cut}
+use Rattle.moment.proofs.Ways.{abs_signed}
 use Rattle.moment.specs.Steps.{length_on, months_on, time_on, date_on}
 use Rattle.reading.specs.Readers.{year_month_day}
 use Rattle.reading.proofs.Steps.{then_then}
@@ -160,6 +161,9 @@ sign_shorter s l minus e = let h : length l ≡ length (sign s).1 = ap (λ (p : 
 pub date_on_as : {months ms : ℤ} (minus : Bool) (y m d t : ℕ) (p : Moment) → months ≡ rule.signed minus (y * 12 + m) → ms ≡ rule.signed minus (d * day_length + t) → date_on months ms p ≡ by_date minus y m d t p
 unfolding by_date
 date_on_as minus y m d t p h k = rw (h, k)
+
+pub size_at : {z : ℤ} {k : ℕ} (minus : Bool) (n : ℕ) → z ≡ rule.signed minus n → n ≤ k → nat_abs z ≤ k
+size_at minus n e h = rw (e, abs_signed minus n) h
 
 module _ (s : List ℕ) (p : Moment) (minus : Bool) (l : List ℕ) (e : sign s ≡ (minus, l)) where
   in_order : (arithmetic s p or refuse Refusal.Null) ≡ ((date_step minus l p or (time_step minus l p or unit_step s p)) or refuse Refusal.Null)

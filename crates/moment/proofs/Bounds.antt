@@ -29,6 +29,10 @@ use Rattle.moment.proofs.Steps.{taken, already, in_range_lem, count_cases, date_
 pub near_more : (m n t : ℕ) → m ≤ n → Near m t → Near n t
 near_more m n t h k = omega arith
 
+-- "With 16 modifiers the milliseconds stay within 64 bits": before the last there is room for one more step either way.
+pub near_room : (t k : ℕ) → Near most_before t → k ≤ step_most → (k < t) × (t + k < 2 ^ 64)
+near_room t k h l = omega arith
+
 pub after_more : (m n : ℕ) (p : Moment) → m ≤ n → After m p → After n p
 after_more m n p h a = record { sane = a.sane; years = a.years; near = near_more m n p.ms h a.near }
 

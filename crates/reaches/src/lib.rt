@@ -34,7 +34,13 @@ fn put_span(set: Setting, a: &[u8], b: &[u8], span: &mut [u8]) -> Result<usize, 
 //
 // `span` is lent for the text and its zero byte: 25 bytes for years 0 to 9999. With less than they need, or where timediff refuses, that
 // answer comes back (7 with the length that `span` needs), and no byte of either buffer is changed.
-pub fn put_back(set: Setting, a: &[u8], b: &[u8], span: &mut [u8], out: &mut [u8]) -> Result<Answer, Unanswered>
+pub fn put_back(
+    set: Setting,
+    a: &[u8],
+    b: &[u8],
+    span: &mut [u8],
+    out: &mut [u8],
+) -> Result<Answer, Unanswered>
     ensures value { result ≡ back_with set (call Function.Datetime) a.now b.now (length span.old) (length out.old) }
     ensures span_after { span.new ≡ after (span_of set a.now b.now) span.old }
     ensures out_after { out.new ≡ out_with set (call Function.Datetime) a.now b.now (length span.old) out.old }

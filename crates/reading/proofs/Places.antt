@@ -1,13 +1,12 @@
 -- Digits that are written read to their number, and runs of bytes are skipped. Assumes nothing.
-use Prim.Native.Nat.{ℕ, zero, suc, ◌+◌, ◌-◌, ◌*◌, ◌/◌, ◌%◌, ◌^◌, ◌≤◌, ◌<◌}
+use Prim.Native.Nat.{ℕ, ◌+◌, ◌-◌, ◌^◌, ◌≤◌, ◌<◌}
 use mathlib.Core.Bool.{Bool, true, false, ◌&&◌, true≢false}
-use mathlib.Core.Path.{◌≡◌, refl, sym, ap, ◌∙◌}
+use mathlib.Core.Path.{◌≡◌, refl, sym}
 use mathlib.Core.List.{List, [], ◌∷◌, ◌++◌, map, append-nil}
-use native.Mathlib.Nat.{pow-suc, one-le-pow, zero-add, zero-mul, mod-lt, mod-eq_of_lt, div-add-mod', mul-add-mod_self_right, mul-le-mul_right, mul_assoc, add-mul, mul_right_comm}
 use native.Mathlib.Omega.{arith}
-use borrow.Author.Tests.{le-leb, leb-true}
-use lib.Dec.{lit≤, leb}
-use Rattle.rules.specs.Basics.{is_digit, got, every, skip, digits_on, digits}
+use borrow.Author.Tests.{leb-true}
+use lib.Dec.{leb}
+use Rattle.rules.specs.Basics.{is_digit, got, every, skip, digits}
 use Rattle.rules.specs.Decimal.{run}
 use Rattle.rules.specs.Writing.{places}
 use Rattle.text.proofs.Bytes.{digit_byte}

@@ -1,9 +1,6 @@
 -- Tests and their truth values. Assumes nothing.
-use Prim.Native.Nat.{ℕ}
 use mathlib.Core.Bool.{Bool, true, false, ◌&&◌}
-use mathlib.Core.Path.{◌≡◌, refl, sym}
-use lib.Dec.{eqb}
-use borrow.Author.Tests.{eq-eqb, ne_eqb, eqb-true, eqb-false}
+use mathlib.Core.Path.{◌≡◌, refl}
 
 pub and_true : (t : Bool) → t && true ≡ t
 and_true true = refl

@@ -194,6 +194,9 @@ fn put_julian_day(buf: &mut [u8], at: usize, instant: Instant) -> Result<usize, 
 }
 
 // "Twenty-six letters and the percent sign are read after a `%` .. Another letter .. gives 1."
+//
+// It stays a function: inlined into the loop over a format, it would have what any letter may ask worked out before the first.
+#[inline(never)]
 fn put_letter(buf: &mut [u8], at: usize, p: Moment, c: u8) -> Result<usize, Refusal>
     requires printable { Printable (held p) }
     requires room { Room buf.old at (text_of (text.letter c (held p))) }

@@ -7,7 +7,6 @@ use lib.Seq.{length-take-le}
 use Rattle.std.specs.Prelude.{Err}
 use Rattle.std.proofs.lemmas.Result.{err_from_is_err_and}
 use Rattle.rules.specs.Program.{general_call}
-use Rattle.text.specs.Places.{rest_of}
 use Rattle.lines.proofs.Asking.{laid_inside, laid_are, missing_gives, general_gives}
 use Rattle.lines.proofs.calls.general.Goals as goal
 

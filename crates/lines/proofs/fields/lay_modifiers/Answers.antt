@@ -1,6 +1,5 @@
 -- `lines::fields::lay_modifiers` meets its contract. Assumes nothing.
 use mathlib.Core.Path.{refl}
-use native.Mathlib.Omega.{arith}
 use Rattle.rules.specs.Program.{buffered}
 use Rattle.lines.proofs.Parts.{lay_on, lay_all}
 use Rattle.lines.proofs.fields.lay_modifiers.Goals as goal

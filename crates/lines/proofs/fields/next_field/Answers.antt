@@ -1,5 +1,4 @@
 -- `lines::fields::next_field` meets its contract. Assumes nothing.
-use mathlib.Core.Path.{refl}
 use Rattle.lines.proofs.Parts.{cut_fields, cut_following}
 use Rattle.lines.proofs.fields.next_field.Goals as goal
 

@@ -6,13 +6,21 @@ use Rattle.rules.specs.Basics.{other}
 use Rattle.rules.specs.Modifiers.{date_step}
 use Rattle.moment.specs.Held.{held}
 use Rattle.moment.proofs.Chains.{moved_as}
-use Rattle.modifiers.proofs.Forms.{sign_shorter, no_date, date_other, date_refused, date_is, date_on_as, dated, date_stops, not_dated}
+use Rattle.modifiers.proofs.Forms.{sign_shorter, no_date, date_other, date_refused, date_is, date_on_as, size_at, dated, date_stops, not_dated}
 use Rattle.modifiers.proofs.Answers.{stepped, refused, stepped_as}
 use Rattle.modifiers.proofs.counts.arithmetic.Goals as goal
 use Rattle.modifiers.proofs.counts.arithmetic.Goals.{in-Some+in_ok-ms+in_default-2, in_default}
 
 pub clock_after-requires : goal.clock_after-requires
 clock_after-requires c = omega (arith, c.in-Some.ensures.shorter, sign_shorter c.args.s.now c.sign-minus.result.1.now c.sign-minus.result.0 c.sign-minus.ensures)
+
+pub by_date-requires : goal.by_date-requires
+by_date-requires c =
+    let months = to_z-of_z w64 _ (record { sfits = c.signed-months.type_inv }) ∙ c.signed-months.ensures in
+    let ms = to_z-of_z w64 _ (record { sfits = c.signed.type_inv }) ∙ c.signed.ensures in
+    let l = c.in-Some.ensures.limits in
+    let t = rw c.in-Some-2.is at c.in_ok-ms.ensures.in_clock in
+    (c.requires.1, size_at _ _ months (omega arith), size_at _ _ ms (omega arith))
 
 pub time_step-requires : goal.time_step-requires
 time_step-requires c = (omega (arith, sign_shorter c.args.s.now c.sign-minus.result.1.now c.sign-minus.result.0 c.sign-minus.ensures), c.requires.1)
