@@ -3,7 +3,7 @@ use mathlib.Core.Bool.{Bool, true, false, ◌&&◌}
 use Rattle.std.specs.Prelude.{if◌then◌else◌}
 use mathlib.Core.List.{List, [], ◌∷◌}
 use mathlib.Core.Path.{◌≡◌, refl, sym, ap, ◌∙◌, subst}
-use Prim.Native.Nat.{ℕ, ◌+◌, ◌-◌, ◌*◌, ◌/◌, ◌%◌, ◌≤◌, ◌<◌}
+use Prim.Native.Nat.{ℕ, ◌+◌, ◌-◌, ◌*◌, ◌/◌, ◌%◌, ◌^◌, ◌≤◌, ◌<◌}
 use native.Mathlib.Omega.{arith}
 use borrow.Author.Tests.{leb-true}
 use lib.Dec.{eqb, leb, ltb}
@@ -19,7 +19,8 @@ use Rattle.calendar.proofs.Years.{days_high}
 use Rattle.real.specs.InMinute.{in_minute}
 use Rattle.real.proofs.Tests.{and_right}
 use Rattle.real.proofs.Seconds.{minute_ms, filled_minute}
-use Rattle.moment.specs.Ranges.{sum_takes, TimeIn, Sane, ReadYear, Near, After, Ranged, Full}
+use Rattle.real.specs.StepMost.{step_most}
+use Rattle.moment.specs.Ranges.{sum_takes, TimeIn, Sane, ReadYear, Near, After, most_before, Ranged, Full}
 use Rattle.moment.specs.Steps.{first_of_month, first_of_year}
 use Rattle.moment.proofs.Branches.{never, either, by_test}
 use Rattle.moment.proofs.Steps.{taken, already, in_range_lem, count_cases, date_cases, time_cases}
