@@ -40,7 +40,8 @@ fn next<R: Read>(input: &mut R, block: &mut [u8]) -> usize
     streams::read(input, block).unwrap_or(0)
 }
 
-// Keeps one byte more of a line, if it has room for it: how many are kept.
+// Keeps one byte more of a line, if it has room for it: how many are kept. The room and that number stay two: a struct that held the lent
+// room would be no plainer, since each contract would have to say that it still holds the same.
 fn kept(room: &mut [u8], have: usize, b: u8) -> usize
     requires { have ≤ length room.old }
     ensures within { result ≤ length room.new }

@@ -31,7 +31,7 @@ pub fn read<R: Read>(input: &mut R, block: &mut [u8]) -> Result<usize, Unread>
 }
 
 // Writes all bytes. Some of them may have been written where it fails: it stops at the first write that does, or that takes nothing.
-// Of no bytes it makes no call.
+// Of no bytes it makes no call. (std's write_all tries again where a write is interrupted, and its Err does not say what was written.)
 pub fn write_all<W: Write>(out: &mut W, bytes: &[u8]) -> Result<(), Unwritten>
     ensures { Writes (W.contents out.old) (W.contents out.new) bytes.now result }
 {
