@@ -1,11 +1,11 @@
 -- Texts laid in the output's buffer. Assumes nothing.
-use Prim.Native.Nat.{ℕ, ◌+◌, ◌-◌, ◌≤◌, ◌<◌}
+use Prim.Native.Nat.{ℕ, ◌+◌, ◌≤◌}
 use mathlib.Core.Bool.{true}
 use mathlib.Core.Path.{◌≡◌, refl, sym, ap, ◌∙◌}
-use mathlib.Core.List.{List, [], ◌∷◌, ◌++◌, append_assoc}
+use mathlib.Core.List.{List, ◌++◌, append_assoc}
 use native.Mathlib.Omega.{arith}
 use lib.Dec.{leb}
-use lib.ListN.{length, take, drop, length-append, length-drop, take-append-drop}
+use lib.ListN.{length, take, drop, length-drop, take-append-drop}
 use lib.Seq.{sets, sets-eq, drop-drop, drop-append-le, length-take-le}
 use borrow.Rule.Slice.PartMut.{mid_of, put_mid}
 use borrow.Author.Tests.{le-leb}
@@ -16,9 +16,8 @@ use Rattle.rules.specs.declared.Answer.{Answer}
 use Rattle.rules.specs.declared.Unanswered.{Unanswered}
 use Rattle.rules.specs.declared.Setting.{Setting}
 use Rattle.digits.specs.Writers.{Laid}
-use Rattle.digits.proofs.Buffer.{laid_then, laid_length}
 use Rattle.lines.proofs.Short.{line_short}
-use Rattle.dates.specs.Answers.{text_length, line_text}
+use Rattle.dates.specs.Answers.{text_length}
 
 -- ---- a text that fills a part of the buffer that was lent, and is back
 pub whole_laid : (out s t : List ℕ) (used k : ℕ) → k ≡ length t → s ≡ t → used + length t ≤ length out → put_mid used k out s ≡ sets out used t

@@ -183,7 +183,9 @@ impl Run {
     fn take(&mut self, stdout: &mut Stdout, block: &[u8]) -> Result<(), Stop>
         ensures { OnOk result (Holds self.new.kept.bytes self.new.kept.used (last_after (kept_line self.old.kept.bytes self.old.kept.used) block.now)) }
     {
-        if let Some(set) = self.set && self.kept.used == 0 {
+        if let Some(set) = self.set
+            && self.kept.used == 0
+        {
             return self.take_lines(stdout, set, block);
         }
         let (end, after) = text::cut(block, NEWLINE);
@@ -243,7 +245,12 @@ impl Run {
     }
 
     // Reads all blocks. The turns end, as Rattle asks of every loop: after more bytes than any input has.
-    fn read_all(&mut self, stdin: &mut Stdin, stdout: &mut Stdout, block: &mut [u8]) -> Result<(), Stop> {
+    fn read_all(
+        &mut self,
+        stdin: &mut Stdin,
+        stdout: &mut Stdout,
+        block: &mut [u8],
+    ) -> Result<(), Stop> {
         for _ in 0..u64::MAX {
             let n = streams::read(stdin, block)?;
             if n == 0 {

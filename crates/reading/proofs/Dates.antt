@@ -5,7 +5,7 @@ use mathlib.Core.Path.{◌≡◌, refl, sym, ◌∙◌}
 use mathlib.Core.List.{List, [], ◌∷◌}
 use native.Mathlib.Omega.{arith}
 use borrow.Author.Tests.{eqb-true}
-use lib.ListN.{length, drop}
+use lib.ListN.{length, drop, length-drop}
 use Rattle.rules.specs.Basics.{got, other, only_if, ◌>>=◌, byte, digits, digits_on, skip}
 use Rattle.rules.specs.Calendar.{year, minus_year}
 use Rattle.rules.specs.Moments.{Moment, set_date, set_dated, past_end}
@@ -13,10 +13,16 @@ use Rattle.rules.specs.Reading.{time, timed, time_after, settled, date_from, dat
 use Rattle.rules.specs.declared.Time.{Time}
 use Rattle.text.specs.Places.{begins, after_byte, gap}
 use Rattle.reading.specs.Readers.{year_month_day}
-use Rattle.reading.proofs.Steps.{or_other, then_then}
+use Rattle.text.proofs.Numbers.{digits_short}
+use Rattle.reading.proofs.Steps.{or_other, then_then, char_then, digits_then}
 
 -- ---- YYYY-MM-DD
 module _ (low months days : ℕ) (l : List ℕ) where
+  pub ten_bytes : length l < 10 → year_month_day low months days l ≡ other
+  unfolding year_month_day
+  ten_bytes h =
+      digits_then 4 0 9999 l _ (λ y. char_then "-" (drop 4 l) _ (digits_then 2 low months (drop 1 (drop 4 l)) _ (λ m. char_then "-" (drop 2 (drop 1 (drop 4 l))) _ (rw (digits_short 2 low days (drop 1 (drop 2 (drop 1 (drop 4 l)))) (simp length-drop (omega arith)))))))
+
   pub no_year : digits 4 0 9999 l ≡ other → year_month_day low months days l ≡ other
   unfolding year_month_day
   no_year h = rw h

@@ -1,17 +1,24 @@
 -- HH:MM and zones. Assumes nothing.
-use Prim.Native.Nat.{ℕ, ◌+◌, ◌-◌, ◌*◌}
+use Prim.Native.Nat.{ℕ, ◌+◌, ◌-◌, ◌*◌, ◌<◌}
 use mathlib.Core.Bool.{Bool, true, false}
 use mathlib.Core.Path.{◌≡◌, refl, ◌∙◌}
 use mathlib.Core.List.{List, [], ◌∷◌}
+use native.Mathlib.Omega.{arith}
 use lib.Dec.{eqb}
+use lib.ListN.{length, drop, length-drop}
 use Rattle.rules.specs.Basics.{Read, got, other, ◌>>=◌, ended, byte, digits, skip}
 use Rattle.rules.specs.Moments.{no_zone}
 use Rattle.rules.specs.Reading.{space, hours_minutes, zone_in}
 use Rattle.reading.specs.Readers.{hour_minute}
-use Rattle.reading.proofs.Steps.{or_other, then_then}
+use Rattle.text.proofs.Numbers.{digits_short}
+use Rattle.reading.proofs.Steps.{or_other, then_then, char_then, digits_then}
 
 -- ---- HH:MM
 module _ (most : ℕ) (l : List ℕ) where
+  pub five_bytes : length l < 5 → hour_minute most l ≡ other
+  unfolding hour_minute
+  five_bytes h = digits_then 2 0 most l _ (λ v. char_then ":" (drop 2 l) _ (rw (digits_short 2 0 59 (drop 1 (drop 2 l)) (simp length-drop (omega arith)))))
+
   pub no_hour : digits 2 0 most l ≡ other → hour_minute most l ≡ other
   unfolding hour_minute
   no_hour h = rw h

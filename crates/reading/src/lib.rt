@@ -22,13 +22,16 @@ const NO_ZONE: u32 = 1440;
 
 // ---- HH:MM
 
-// An hour up to `most` and a minute, 0 to 59.
-#[tactic(auto, using(text::proofs::Reading::byte_after), unfolding(crate::specs::Readers::hour_minute))]
+// An hour up to `most` and a minute, 0 to 59. The first test is for all five bytes, so that none has one of its own.
+#[tactic(auto, using(text::proofs::Reading::byte_after, crate::proofs::Zones::five_bytes), unfolding(crate::specs::Readers::hour_minute))]
 fn hour_minute(s: &[u8], most: u32) -> Option<(u32, u32, &[u8])>
     ensures value { read_some (λ r. (r.0, r.1, r.2.now)) result ≡ hour_minute most s.now }
     ensures up_to { IfSome result (λ r. (r.0 ≤ most) × (r.1 ≤ 59)) }
     ensures shorter { IfSome result (λ r. length r.2.now ≤ length s.now) }
 {
+    if s.len() < 5 {
+        return None;
+    }
     let (hour, colon) = text::digits::<2>(s, 0, most)?;
     let after = text::byte(colon, b':')?;
     let (minute, rest) = text::digits::<2>(after, 0, 59)?;
@@ -125,13 +128,16 @@ pub fn time(s: &[u8]) -> Option<Time>
 
 // ---- a date
 
-// YYYY-MM-DD: year 0 to 9999, month and day from `low` up to `months` and `days`.
-#[tactic(auto, using(text::proofs::Reading::byte_after), unfolding(crate::specs::Readers::year_month_day))]
+// YYYY-MM-DD: year 0 to 9999, month and day from `low` up to `months` and `days`. The first test is for all ten bytes.
+#[tactic(auto, using(text::proofs::Reading::byte_after, crate::proofs::Dates::ten_bytes), unfolding(crate::specs::Readers::year_month_day))]
 pub fn year_month_day(s: &[u8], low: u32, months: u32, days: u32) -> Option<(u32, u32, u32, &[u8])>
     ensures value { read_some (λ r. (r.0, r.1, r.2, r.3.now)) result ≡ year_month_day low months days s.now }
     ensures limits { IfSome result (λ r. Limits low months days r.0 r.1 r.2) }
     ensures shorter { IfSome result (λ r. length r.3.now ≤ length s.now) }
 {
+    if s.len() < 10 {
+        return None;
+    }
     let (year, dash) = text::digits::<4>(s, 0, 9999)?;
     let after = text::byte(dash, b'-')?;
     let (month, second) = text::digits::<2>(after, low, months)?;
