@@ -63,6 +63,14 @@ fn texts_allowed(format: &[u8], given: Given, value: &[u8], modifiers: &[u8]) ->
     both_allowed(text_allowed(format, 1024), others)
 }
 
+// And timediff's two.
+#[tactic(auto, using(crate::proofs::Allowed::both_allowed_by), unfolding(rules::specs::Calls::bad_shape, rules::specs::Calls::bad_bytes))]
+fn values_allowed(given_a: Given, a: &[u8], given_b: Given, b: &[u8]) -> Result<(), Refusal>
+    ensures { result ≡ allowed_by (bad_shape (timediff (value_of given_a a.now) (value_of given_b b.now))) (bad_bytes (timediff (value_of given_a a.now) (value_of given_b b.now))) }
+{
+    both_allowed(value_allowed(given_a, a), value_allowed(given_b, b))
+}
+
 // 4: "clock above 253402300799999, or offset outside -86399 to 86399"
 #[tactic(auto, unfolding(rules::specs::Calls::bad_setting))]
 fn setting_allowed(set: Setting) -> Result<(Clock, Offset), Refusal>
@@ -164,7 +172,7 @@ fn both(
 }
 
 // The two instants that a call of timediff is about.
-#[tactic(auto, unfolding(rules::specs::Calls::bad_shape, rules::specs::Calls::bad_bytes))]
+#[tactic(auto, unfolding(rules::specs::Calls::bad_shape))]
 pub fn instants(
     set: Setting,
     given_a: Given,
@@ -174,7 +182,7 @@ pub fn instants(
 ) -> Result<(Instant, Instant), Refusal>
     ensures { read_both result ≡ opened set (timediff (value_of given_a a.now) (value_of given_b b.now)) (instants set.clock (value_of given_a a.now) (value_of given_b b.now)) }
 {
-    both_allowed(value_allowed(given_a, a), value_allowed(given_b, b))?;
+    values_allowed(given_a, a, given_b, b)?;
     let (clock, _) = setting_allowed(set)?;
     both(clock, given_a, a, given_b, b)
 }
