@@ -63,6 +63,14 @@ fn texts_allowed(format: &[u8], given: Given, value: &[u8], modifiers: &[u8]) ->
     both_allowed(text_allowed(format, 1024), others)
 }
 
+// And timediff's two.
+#[tactic(auto, using(crate::proofs::Allowed::both_allowed_by), unfolding(rules::specs::Calls::bad_shape, rules::specs::Calls::bad_bytes))]
+fn values_allowed(given_a: Given, a: &[u8], given_b: Given, b: &[u8]) -> Result<(), Refusal>
+    ensures { result ≡ allowed_by (bad_shape (timediff (value_of given_a a.now) (value_of given_b b.now))) (bad_bytes (timediff (value_of given_a a.now) (value_of given_b b.now))) }
+{
+    both_allowed(value_allowed(given_a, a), value_allowed(given_b, b))
+}
+
 // 4: "clock above 253402300799999, or offset outside -86399 to 86399"
 #[tactic(auto, unfolding(rules::specs::Calls::bad_setting))]
 fn setting_allowed(set: Setting) -> Result<(Clock, Offset), Refusal>

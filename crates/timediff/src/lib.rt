@@ -30,7 +30,7 @@ pub struct Span {
     pub rest: u64,
 }
 
-// Where the back-off stops: the months of the shift, and the millisecond to which they move B.
+// Where the back-off stops: the months of the shift, and the millisecond to which they move B, which may lie below 0 and so be no Instant.
 #[derive(Clone, Copy)]
 struct Shift {
     months: u32,
