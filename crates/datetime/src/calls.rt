@@ -144,14 +144,6 @@ fn present(given: Given) -> Given
     }
 }
 
-// Both texts of a call, whether read or not.
-#[tactic(auto, using(crate::proofs::Allowed::both_allowed_by), unfolding(rules::specs::Calls::bad_shape, rules::specs::Calls::bad_bytes))]
-fn values_allowed(given_a: Given, a: &[u8], given_b: Given, b: &[u8]) -> Result<(), Refusal>
-    ensures { result ≡ allowed_by (bad_shape (timediff (value_of given_a a.now) (value_of given_b b.now))) (bad_bytes (timediff (value_of given_a a.now) (value_of given_b b.now))) }
-{
-    both_allowed(value_allowed(given_a, a), value_allowed(given_b, b))
-}
-
 // "final range" of both, which is refused alike.
 #[tactic(auto, unfolding(crate::specs::Instants::ranged_both))]
 fn both_ranged(p: Moment, q: Moment) -> Result<(Instant, Instant), Refusal>
