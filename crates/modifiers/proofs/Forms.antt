@@ -157,11 +157,6 @@ sign_shorter s l minus e = let h : length l ≡ length (sign s).1 = ap (λ (p : 
         go false true = omega arith
         go false false = omega arith
 
--- the date form is so many months and milliseconds
-pub date_on_as : {months ms : ℤ} (minus : Bool) (y m d t : ℕ) (p : Moment) → months ≡ rule.signed minus (y * 12 + m) → ms ≡ rule.signed minus (d * day_length + t) → date_on months ms p ≡ by_date minus y m d t p
-unfolding by_date
-date_on_as minus y m d t p h k = rw (h, k)
-
 pub size_at : {z : ℤ} {k : ℕ} (minus : Bool) (n : ℕ) → z ≡ rule.signed minus n → n ≤ k → nat_abs z ≤ k
 size_at minus n e h = rw (e, abs_signed minus n) h
 
