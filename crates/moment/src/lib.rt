@@ -13,8 +13,8 @@ ghost use Rattle.calendar.specs.Ranges.{MonthDay};
 ghost use Rattle.real.specs.InMinute.{in_minute};
 ghost use Rattle.moment.specs.Fields.{TimeIn};
 
-use rules::Time;
 pub use fields::NO_ZONE;
+use rules::Time;
 pub use settings::{Clock, Offset};
 
 mod fields;

@@ -171,6 +171,7 @@ fn time_after(s: &[u8]) -> Option<Moment>
     requires { length s.now ≤ 255 }
     ensures value { read_some held result ≡ reading.time_after s.now }
     ensures after { IfSome result (λ p. After 0 (held p)) }
+    ensures fresh { IfSome result (λ p. Fresh (held p)) }
 {
     if s.is_empty() {
         return Some(Moment::blank());
