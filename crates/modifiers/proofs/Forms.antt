@@ -1,8 +1,7 @@
 -- The forms of a modifier that counts, case by case, in the order in which they are tried. Assumes nothing.
-use Rattle.std.proofs.Common.{if◌then◌else◌, ◌≡◌, ℕ, suc, ◌+◌, ◌*◌, ◌≤◌, Bool, true, false, not, List, [], ◌∷◌, length, drop, ℤ, nat_abs, sym, refl, ap, ◌∙◌, subst, arith}
+use Rattle.std.proofs.Common.{if◌then◌else◌, ◌≡◌, ℕ, suc, ◌*◌, ◌≤◌, Bool, true, false, not, List, [], ◌∷◌, length, drop, ℤ, nat_abs, sym, refl, ap, ◌∙◌, subst, arith}
 use lib.Ieee.{Float}
 use Rattle.rules.specs.Basics.{is, Read, got, other, refuse, ◌or◌, ◌>>=◌, every, beside, front, skip, trim_end, trim}
-use Rattle.rules.specs.Calendar.{day_length}
 use Rattle.rules.specs.Decimal.{sign, decimal}
 use Rattle.rules.specs.Floats.{below, cut}
 use Rattle.rules.specs.Moments.{Moment}
@@ -14,7 +13,7 @@ use Rattle.rules.specs.declared.Time.{Time}
 use Rattle.real.specs.StepMost.{step_most}
 use Rattle.real.proofs.Units.{days_ms, hours_ms, minutes_ms, seconds_ms_lem, months_ms, years_ms, months_cut, years_cut}
 use Rattle.moment.proofs.Ways.{abs_signed}
-use Rattle.moment.specs.Steps.{length_on, months_on, time_on, date_on}
+use Rattle.moment.specs.Steps.{length_on, months_on, time_on}
 use Rattle.reading.specs.Readers.{year_month_day}
 use Rattle.reading.proofs.Steps.{then_then}
 use Rattle.modifiers.specs.Words.{scale_of, step_by, unit_after}
