@@ -12,6 +12,8 @@
 // - From March on, months have 31 30 31 30 31 days, again 31 30 31 30 31, then 31 and what is left: five have 153. So month m, from 0 for
 //   March to 11 for February, begins at x = (153 m + 2) / 5, and m is (5 x + 2) / 153. January and February are the next year's.
 // For days 0 to 5373811 the century is at most 147, b 36524, the year of the century 99, x 365.
+//
+// `Countable` and `MonthDay` are clauses and no types: rules' Ymd is a record of the definitions, so it holds any numbers.
 #![tactic(auto)]
 
 ghost use Rattle.std.specs.Prelude.{if◌then◌else◌, ◌≡◌, ◌+◌, ◌≤◌, ◌<◌, ◌↔◌, IsSome, IfSome};

@@ -139,7 +139,7 @@ fn point(s: &[u8], from: u64) -> Digits<'_>
     }
 }
 
-// "optional exponent", and nothing after it: whether it is negative, and its magnitude.
+// "optional exponent", and nothing after it: whether it is negative, and its magnitude, which goes up to 2^64 - 1 and so fits no i64.
 #[tactic(auto, unfolding(rules::specs::Decimal::exponent))]
 fn exponent(s: &[u8]) -> Option<(bool, u64)>
     ensures { read_some (λ x. x) result ≡ held_exponent (rule.exponent s.now) }

@@ -4,6 +4,8 @@
 // division or one product in f64 is the exact value rounded once.
 // Otherwise the 64 highest bits of the exact value are worked out over whole numbers, with whether anything is left below them (`sticky`),
 // and rounded to the 53 that an f64 keeps. The twos of 10^k = 5^k * 2^k only move the exponent.
+//
+// `0 < d` and `k ≤ 22` are clauses and no types: d and k are two numbers of one computation, and nothing outside this crate sees them.
 ghost use Rattle.std.specs.Prelude.{◌≡◌, ◌+◌, ◌*◌, ◌^◌, ◌≤◌, ◌<◌, false};
 ghost use Rattle.std.specs.Float.Ieee.{of_bits, round};
 ghost use Rattle.std.specs.Float.{binary64};

@@ -1,8 +1,7 @@
 -- The forms of a modifier that counts, case by case, in the order in which they are tried. Assumes nothing.
-use Rattle.std.proofs.Common.{if◌then◌else◌, ◌≡◌, ℕ, suc, ◌+◌, ◌*◌, ◌≤◌, Bool, true, false, not, List, [], ◌∷◌, length, drop, ℤ, nat_abs, sym, refl, ap, ◌∙◌, subst, arith}
+use Rattle.std.proofs.Common.{if◌then◌else◌, ◌≡◌, ℕ, suc, ◌*◌, ◌≤◌, Bool, true, false, not, List, [], ◌∷◌, length, drop, ℤ, nat_abs, sym, refl, ap, ◌∙◌, subst, arith}
 use lib.Ieee.{Float}
 use Rattle.rules.specs.Basics.{is, Read, got, other, refuse, ◌or◌, ◌>>=◌, every, beside, front, skip, trim_end, trim}
-use Rattle.rules.specs.Calendar.{day_length}
 use Rattle.rules.specs.Decimal.{sign, decimal}
 use Rattle.rules.specs.Floats.{below, cut}
 use Rattle.rules.specs.Moments.{Moment}
@@ -14,7 +13,7 @@ use Rattle.rules.specs.declared.Time.{Time}
 use Rattle.real.specs.StepMost.{step_most}
 use Rattle.real.proofs.Units.{days_ms, hours_ms, minutes_ms, seconds_ms_lem, months_ms, years_ms, months_cut, years_cut}
 use Rattle.moment.proofs.Ways.{abs_signed}
-use Rattle.moment.specs.Steps.{length_on, months_on, time_on, date_on}
+use Rattle.moment.specs.Steps.{length_on, months_on, time_on}
 use Rattle.reading.specs.Readers.{year_month_day}
 use Rattle.reading.proofs.Steps.{then_then}
 use Rattle.modifiers.specs.Words.{scale_of, step_by, unit_after}
@@ -156,11 +155,6 @@ sign_shorter s l minus e = let h : length l ≡ length (sign s).1 = ap (λ (p : 
         go true u = omega arith
         go false true = omega arith
         go false false = omega arith
-
--- the date form is so many months and milliseconds
-pub date_on_as : {months ms : ℤ} (minus : Bool) (y m d t : ℕ) (p : Moment) → months ≡ rule.signed minus (y * 12 + m) → ms ≡ rule.signed minus (d * day_length + t) → date_on months ms p ≡ by_date minus y m d t p
-unfolding by_date
-date_on_as minus y m d t p h k = rw (h, k)
 
 pub size_at : {z : ℤ} {k : ℕ} (minus : Bool) (n : ℕ) → z ≡ rule.signed minus n → n ≤ k → nat_abs z ≤ k
 size_at minus n e h = rw (e, abs_signed minus n) h

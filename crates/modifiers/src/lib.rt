@@ -71,7 +71,7 @@ pub fn modifier(offset: Offset, i: usize, s: &[u8], p: Moment) -> Result<Moment,
     }
 }
 
-// "modifiers left to right"
+// "modifiers left to right". `i` is the place that "first only" asks for; a `for i in 0..` would need the walk's end as a branch in its body.
 pub fn modified(offset: Offset, buffer: &[u8], p: Moment) -> Result<Moment, Refusal>
     requires { (modifiers_bad buffer.now ≡ false) × After 0 (held p) }
     ensures value { read_of result ≡ rule.modified offset.seconds 0 (modifiers buffer.now) (held p) }

@@ -13,7 +13,7 @@ use Rattle.rules.specs.Floats.{cut}
 use Rattle.rules.specs.Calendar.{instant, last, in_range, day_length}
 use Rattle.rules.specs.Functions.{ranged, renewed}
 use Rattle.rules.specs.Moments.{Moment, clear, moved, set_ms, set_date, set_counted, set_dated, set_over, set_raw, set_utc, set_local, count_ms, fill, past_end, shift}
-use Rattle.rules.specs.Modifiers.{at_ms, fraction_ms, from_epoch, is_auto, auto, julian, is_unix, unix, floor, localtime, utc, days_on, to_weekday}
+use Rattle.rules.specs.Modifiers.{at_ms, fraction_ms, from_epoch, is_auto, auto, julian, is_unix, unix, floor, localtime, utc, days_on, to_weekday, signed, by_date}
 use Rattle.rules.specs.declared.Refusal.{Refusal}
 use Rattle.real.proofs.Tests.{and_left, and_right}
 use Rattle.moment.specs.Ranges.{Ranged}
@@ -93,6 +93,11 @@ unfolding shift past_end
 months_are k days n p =
     let q = fill p in
     ap (λ (m : ℕ). step (fraction_ms days n) (count_ms (past_end (set_counted (set_date q (m / 12) (m % 12 + 1) q.day) false)))) (sym (move_product (q.year * 12 + (q.month - 1)) (cut n) k))
+
+-- ---- a date with a sign is so many months and milliseconds
+pub by_date_is : {months ms : ℤ} (minus : Bool) (y m d t : ℕ) (p : Moment) → months ≡ signed minus (y * 12 + m) → ms ≡ signed minus (d * day_length + t) → date_on months ms p ≡ by_date minus y m d t p
+unfolding by_date
+by_date_is minus y m d t p h k = rw (h, k)
 
 -- ---- the final range
 pub counted_or_failed : (p : Moment) → (count_ms p).failed ≡ false → (count_ms p).counted ≡ true

@@ -1,5 +1,5 @@
 -- What the milliseconds of a record's fields are made of.
-use Rattle.std.specs.Prelude.{if◌then◌else◌, ℕ, ◌+◌, ◌-◌, ◌*◌, false, eqb, Float}
+use Rattle.std.specs.Prelude.{if◌then◌else◌, ℕ, ◌+◌, ◌-◌, ◌*◌, true, false, ◌≡◌, eqb, Float}
 use Rattle.rules.specs.Calendar.{year, midnight}
 use Rattle.rules.specs.Floats.{number}
 use Rattle.rules.specs.Moments as rule
@@ -25,3 +25,8 @@ civil_instant y m d h min s zone = midnight y m d + rule.time_ms h min s + no_zo
 -- the milliseconds of the fields, which no longer stand where a zone was taken off
 abbrev pub summed_to : rule.Moment → ℕ → ℕ → rule.Moment
 summed_to p ms zone = if eqb zone no_zone then rule.counted p ms else rule.set_utc (rule.clear (rule.counted p ms))
+
+-- a record as it was read: no milliseconds are summed, and a zone stands only where there is a time
+pub record Fresh (p : rule.Moment) : Type 0 where
+  pub uncounted : p.counted ≡ false
+  pub timed : eqb p.zone no_zone ≡ false → p.timed ≡ true

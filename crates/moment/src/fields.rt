@@ -28,7 +28,8 @@ const UNKNOWN_DATE: Ymd = Ymd {
     day: 1,
 };
 
-pub(crate) const NO_ZONE: u32 = 1440;
+// No zone as it is held, which is 0 minutes east of UTC.
+pub const NO_ZONE: u32 = 1440;
 
 // The instant of a date and a time of day in a zone. No zone, held as 1440 minutes, is 86400000 ms. It takes numbers and stays a function:
 // counting around it is then inlined, and records stay in registers (docs/SPEED.md).

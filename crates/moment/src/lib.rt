@@ -13,6 +13,7 @@ ghost use Rattle.calendar.specs.Ranges.{MonthDay};
 ghost use Rattle.real.specs.InMinute.{in_minute};
 ghost use Rattle.moment.specs.Fields.{TimeIn};
 
+pub use fields::NO_ZONE;
 use rules::Time;
 pub use settings::{Clock, Offset};
 
@@ -35,7 +36,8 @@ pub struct Moment {
     pub zone: u32,
     // the days by which the day lies past its month's end
     pub over: u32,
-    // the milliseconds, the date, the time of day stand
+    // the milliseconds, the date, the time of day stand. No Option in their place: the rules' record, which `held` gives field by field,
+    // keeps the values of fields that no longer stand.
     pub counted: bool,
     pub dated: bool,
     pub timed: bool,

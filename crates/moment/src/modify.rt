@@ -2,6 +2,8 @@
 //
 // A step that moves the milliseconds takes a record to which at most 15 modifiers came before (`Movable`), and one more has come to what it
 // hands back (`Moved`). One that only fills takes any, and hands back one that is no further (`Filled`).
+// `Movable` is a clause and no type: how far the milliseconds may have gone depends on how many modifiers came before, so such a type would
+// be made anew at each turn of the walk and taken off at each step.
 ghost use Rattle.std.specs.Prelude.{◌≡◌, false, not, ◌&&◌, ◌||◌, [], ◌*◌, ◌≤◌, unsigned_abs};
 ghost use Rattle.rules.specs.Calendar.{in_range};
 ghost use Rattle.rules.specs.Floats.{cut};
@@ -273,7 +275,7 @@ impl Moment {
     // ---- for the functions
 
     // Whether the milliseconds stand for an instant: no sum failed, and they are 0 to the last.
-    pub fn in_range(self) -> bool
+    fn in_range(self) -> bool
         ensures { result ≡ (not self.failed && in_range self.ms) }
     {
         !self.failed && Instant::new(self.ms).is_some()

@@ -2,6 +2,7 @@
 //
 // A reader takes a slice and says what the rules' reader of the same name says of its bytes: it hands back what it read, and the rest where
 // more may follow. Zones are held as crate rules says: minutes east of UTC plus 1440.
+// `length s.now ≤ 255` is a clause and no type: the rest of a short slice is a slice, so a type of short ones would be made anew at each reader.
 #![tactic(auto)]
 
 ghost use Rattle.std.specs.Prelude.{◌≡◌, true, ◌||◌, ◌≤◌, length, IfSome};
@@ -13,12 +14,11 @@ ghost use Rattle.real.specs.InMinute.{in_minute};
 ghost use Rattle.reading.specs.Readers.{hour_minute, InZones, year_month_day, Limits, held_year, subsec_value, is_empty};
 ghost use Rattle.moment.specs.Held.{held};
 ghost use Rattle.moment.specs.Ranges.{TimeRead, After, read_of, Lands};
+ghost use Rattle.moment.specs.Sums.{Fresh};
 
-use moment::{Clock, Moment};
+use moment::{Clock, Moment, NO_ZONE};
 use rules::{Given, Refusal, Time, Ymd};
 use text::{Gap, Space};
-
-const NO_ZONE: u32 = 1440;
 
 // ---- HH:MM
 
@@ -160,6 +160,7 @@ pub fn time_alone(s: &[u8]) -> Option<Moment>
     requires { length s.now ≤ 255 }
     ensures value { read_some held result ≡ reading.time_form s.now }
     ensures after { IfSome result (λ p. After 0 (held p)) }
+    ensures fresh { IfSome result (λ p. Fresh (held p)) }
 {
     Some(Moment::timed(time(s)?))
 }
@@ -170,6 +171,7 @@ fn time_after(s: &[u8]) -> Option<Moment>
     requires { length s.now ≤ 255 }
     ensures value { read_some held result ≡ reading.time_after s.now }
     ensures after { IfSome result (λ p. After 0 (held p)) }
+    ensures fresh { IfSome result (λ p. Fresh (held p)) }
 {
     if s.is_empty() {
         return Some(Moment::blank());

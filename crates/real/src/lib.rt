@@ -154,7 +154,7 @@ pub fn unix_seconds(ms: u64) -> i64
     signed(ms).div_euclid(1000) - 210866760000
 }
 
-// Seconds from 1970 with their fraction.
+// Seconds from 1970 with their fraction. There are two branches, since the difference fits no i64.
 #[tactic(auto, using(crate::proofs::Literals::literals, crate::proofs::Sign::negated), unfolding(rules::specs::Writing::unix_real))]
 pub fn unix_real(ms: u64) -> f64
     ensures { result ≡ unix_real ms }

@@ -22,7 +22,9 @@ use calendar::Instant;
 use digits::{put_byte, put_digits, put_next, put_number, put_point};
 use rules::Ymd;
 
-// What timediff writes: the sign, the months and, in milliseconds, the rest, which is less than 31 days.
+// What timediff writes: the sign, the months and, in milliseconds, the rest, which is less than 31 days. Which way is a `bool` here and in
+// the functions below, as in the definitions that they are proved by: `gap`, `past` and `moved` of specs/Spans take it as a flag, and the
+// promise of specs/Promise names it `plus`.
 #[derive(Clone, Copy)]
 pub struct Span {
     pub plus: bool,
@@ -75,7 +77,7 @@ fn is_past(plus: bool, a: u64, at: u64) -> bool
 }
 
 // "The shift starts at the months from B's calendar month to A's .., is backed off one month at a time and stops at the first that does
-// not pass."
+// not pass." It is a `loop`, since it hands back where it stops: the months and the millisecond at once.
 fn back_off(plus: bool, a: Instant, b: Instant) -> Shift
     requires { Toward plus a.ms b.ms }
     ensures { (result ≡ shift_of plus a.ms b.ms) × Toward plus a.ms result.at × (between plus a.ms b.ms ≤ result.months + 2) }

@@ -6,7 +6,8 @@ use Rattle.rules.specs.Basics.{other}
 use Rattle.rules.specs.Modifiers.{date_step}
 use Rattle.moment.specs.Held.{held}
 use Rattle.moment.proofs.Chains.{moved_as}
-use Rattle.modifiers.proofs.Forms.{sign_shorter, no_date, date_other, date_refused, date_is, date_on_as, size_at, dated, date_stops, not_dated}
+use Rattle.moment.proofs.Modifiers.{by_date_is}
+use Rattle.modifiers.proofs.Forms.{sign_shorter, no_date, date_other, date_refused, date_is, size_at, dated, date_stops, not_dated}
 use Rattle.modifiers.proofs.Answers.{stepped, refused, stepped_as}
 use Rattle.modifiers.proofs.counts.arithmetic.Goals as goal
 use Rattle.modifiers.proofs.counts.arithmetic.Goals.{in-Some+in_ok-ms+in_default-2, in_default}
@@ -36,7 +37,7 @@ returns-in-Some-2 c =
     let ms = to_z-of_z w64 _ (record { sfits = c.signed.type_inv }) ∙ c.signed.ensures in
     let t = rw c.in-Some-2.is at c.in_ok-ms.ensures.value in
     stepped _ (dated _ _ _ _ (sym c.sign-minus.ensures) _ (date_is _ _ _ _ _ _ _ (sym c.in-Some.ensures.value) _ (sym t)))
-    (moved_as (date_on_as _ _ _ _ _ _ months ms) c.by_date.ensures)
+    (moved_as (by_date_is _ _ _ _ _ _ months ms) c.by_date.ensures)
 
 -- no date, or one that no time follows
 pub returns : goal.returns
