@@ -48,7 +48,7 @@ returns c =
     let p = held c.args.p in
     let m = rw c.in_ok-most.ensures.ok_part at c.letter_most.ensures in
     let text : IsText (letter c.args.c p) = elim c.else-c-eq74.branch [
-        else-c-eq74-via-then-c-eq74+else-p-lt-EARLY w ↦ rw w.if-c-eq74.true (late p w.if-p-lt-EARLY.false)
+      | else-c-eq74-via-then-c-eq74+else-p-lt-EARLY w ↦ rw w.if-c-eq74.true (late p w.if-p-lt-EARLY.false)
       | else-c-eq74-via-else-c-eq74 w ↦ a_letter p c.requires c.args.c (λ z. omega (arith, z, m.0, m.1)) w.if-c-eq74.false
     ] in
     is_most _ _ _ text (rw m.0 (most_length p c.requires c.args.c)) m.0
