@@ -9,12 +9,9 @@
 // - `check` finds the first refusal, or a bound of the text's length, the sum of its letters' bounds;
 // - `format_length` finds the exact length, where the bound has no room;
 // - `put_format` writes the text.
-//
-// Each walks by itself: one reader of a format's front would give a kind of three (a byte, a letter, a last `%`), of which two of the walks
-// must rule one out.
 #![tactic(auto)]
 
-ghost use Rattle.std.specs.Prelude.{◌≡◌, ◌≤◌, ◌<◌, ◌^◌, ◌++◌, length, MatchOption};
+ghost use Rattle.std.specs.Prelude.{◌≡◌, ◌≤◌, ◌<◌, ◌^◌, ◌++◌, [], length, MatchOption};
 ghost use Rattle.rules.specs.Basics.{ascii};
 ghost use Rattle.rules.specs.Calendar as rule;
 ghost use Rattle.rules.specs.Writing as text;
@@ -22,7 +19,7 @@ ghost use Rattle.moment.specs.Held.{held};
 ghost use Rattle.moment.specs.Ranges.{Full};
 ghost use Rattle.digits.specs.Writers.{Room, Laid};
 ghost use Rattle.writing.specs.Texts.{date_of, whole_time, decimal_time, half};
-ghost use Rattle.writing.specs.Formats.{text_of, IsText, most, most_of, PutIs, CheckIs};
+ghost use Rattle.writing.specs.Formats.{text_of, IsText, most, most_of, PutIs, CheckIs, FrontIs};
 
 use calendar::Instant;
 use digits::{
@@ -301,6 +298,31 @@ fn letter_length(p: Moment, c: u8) -> usize
 
 // ---- a format
 
+// What stands at the front of a format.
+enum Part {
+    // a byte that stands for itself
+    Byte(u8),
+    // a `%` and this letter
+    Letter(u8),
+    // a `%` that ends the format
+    Last,
+}
+
+// The front of a format, and what follows it.
+#[inline]
+fn next_part(format: &[u8]) -> Option<(Part, &[u8])>
+    ensures { MatchOption result (format.now ≡ []) (λ r. FrontIs r.0 r.1.now format.now) }
+{
+    let (b, rest) = format.split_first()?;
+    if *b != b'%' {
+        return Some((Part::Byte(*b), rest));
+    }
+    match rest.split_first() {
+        Some((c, rest)) => Some((Part::Letter(*c), rest)),
+        None => Some((Part::Last, rest)),
+    }
+}
+
 // What `put_letter` will answer: its refusal, or the letter's bound.
 fn check_letter(p: Moment, c: u8) -> Result<usize, Refusal>
     requires { Full (held p) }
@@ -322,16 +344,12 @@ pub fn check(p: Moment, format: &[u8]) -> Result<usize, Refusal>
 {
     let mut left = format;
     let mut most = 0;
-    while let Some((b, rest)) = left.split_first() {
-        if *b != b'%' {
-            most += 1;
-            left = rest;
-            continue;
-        }
-        let Some((c, rest)) = rest.split_first() else {
-            return Err(Refusal::Null);
+    while let Some((part, rest)) = next_part(left) {
+        most += match part {
+            Part::Byte(_) => 1,
+            Part::Letter(c) => check_letter(p, c)?,
+            Part::Last => return Err(Refusal::Null),
         };
-        most += check_letter(p, *c)?;
         left = rest;
     }
     Ok(most)
@@ -346,14 +364,12 @@ pub fn format_length(p: Moment, format: &[u8]) -> usize
 {
     let mut left = format;
     let mut n = 0;
-    while let Some((b, rest)) = left.split_first() {
-        if *b != b'%' {
-            n += 1;
-            left = rest;
-            continue;
-        }
-        let (c, rest) = rest.split_first().unwrap();
-        n += letter_length(p, *c);
+    while let Some((part, rest)) = next_part(left) {
+        n += match part {
+            Part::Byte(_) => 1,
+            Part::Letter(c) => letter_length(p, c),
+            Part::Last => unreachable!(),
+        };
         left = rest;
     }
     n
@@ -369,14 +385,12 @@ pub fn put_format(buf: &mut [u8], at: usize, p: Moment, format: &[u8]) -> Result
 {
     let mut left = format;
     let mut next = at;
-    while let Some((b, rest)) = left.split_first() {
-        if *b != b'%' {
-            next = put_byte(buf, next, *b);
-            left = rest;
-            continue;
-        }
-        let (c, rest) = rest.split_first().unwrap();
-        next = put_letter(buf, next, p, *c)?;
+    while let Some((part, rest)) = next_part(left) {
+        next = match part {
+            Part::Byte(b) => put_byte(buf, next, b),
+            Part::Letter(c) => put_letter(buf, next, p, c)?,
+            Part::Last => unreachable!(),
+        };
         left = rest;
     }
     Ok(next)
