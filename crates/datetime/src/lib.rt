@@ -4,6 +4,9 @@
 // `after` what the lent buffer holds: the answer's bytes from its first byte on, every other byte as it was; after a refusal, all of them
 // as they were.
 //
+// docs/PROMISES.md names each function. Five of them are two lines each: one with the last step as a closure would state the closure's
+// contract in place of those lines.
+//
 // A time value is what is `given`; where that is Bytes, they are `value`. Modifiers lie in one buffer, each ended by a zero byte.
 #![tactic(auto)]
 

@@ -1,6 +1,7 @@
 // Answers of a record that passed the final range: a text in the lent buffer, or a number.
 //
-// The length is known before the first byte is written, so that refusal 7 changes none.
+// The length is known before the first byte is written, so that refusal 7 changes none. (`date` and `time` are two lines each: one with
+// length and writer as closures would state the contracts of both.)
 ghost use Rattle.std.specs.Prelude.{◌≡◌, ◌≤◌, ◌<◌, [], ◌++◌, length, MatchResult, Ok};
 ghost use Rattle.rules.specs.Basics.{ascii};
 ghost use Rattle.rules.specs.Calls.{text, answered};

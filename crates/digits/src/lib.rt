@@ -5,7 +5,8 @@
 // a text will be is told by a `.._length` beside its writer, where the length isn't plain.
 //
 // The buffer and the place are two arguments, and a writer returns the next place: a struct that held both would need, in each contract,
-// one more clause, that it still holds the same reference.
+// one more clause, that it still holds the same reference; the rest of the buffer, a `&mut [u8]` in and one out, one more on what its
+// lender then holds.
 //
 // Years are held as rules holds them: 2024 as 42024.
 #![tactic(auto)]
@@ -136,7 +137,8 @@ pub fn put_hex(buf: &mut [u8], at: usize, x: f64) -> usize
     put_hex_digits(buf, at, 16, x.to_bits())
 }
 
-// The n lowest hexadecimal digits of a number, small letters: the last is laid first.
+// The n lowest hexadecimal digits of a number, small letters: the last is laid first. (A loop of its own: one for both bases would compare
+// each decimal digit with 10.)
 pub fn put_hex_digits(buf: &mut [u8], at: usize, n: usize, v: u64) -> usize
     requires { Room buf.old at (hex n v) }
     ensures { Laid buf.old at (hex n v) buf.new result }

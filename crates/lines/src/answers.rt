@@ -49,7 +49,7 @@ fn show_text(s: &[u8], out: &mut [u8]) -> Result<Answer, Unanswered>
     Ok(Answer::Text(digits::put_bytes(out, 0, s)))
 }
 
-// The words of a refusal.
+// The words of a refusal: bytes, as rules' `shown` has them. (Display would write them through a formatter.)
 #[tactic(auto, unfolding(rules::specs::Program::shown, rules::specs::Writing::wide, rules::specs::Writing::width, rules::specs::Writing::places))]
 fn words(r: Refusal) -> &'static [u8]
     ensures { result.now ≡ shown (refused r) }

@@ -46,6 +46,7 @@ fn general(
     call(set, f, value, &room[..n], out)
 }
 
+// A match, as a table of functions would hold function pointers.
 fn call(
     set: Setting,
     f: Function,

@@ -14,6 +14,7 @@ pub enum Name {
     Timediff,
 }
 
+// Seven tests: a match on the byte strings would ask for a proof at each byte where a name may end or differ, some fifty.
 #[tactic(auto, unfolding(crate::specs::Names::named, rules::specs::Program::general))]
 pub fn name_of(s: &[u8]) -> Option<Name>
     ensures { read_some (λ n. n) result ≡ named s.now }

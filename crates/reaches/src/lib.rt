@@ -1,5 +1,8 @@
 // Demand 3 of the code: timediff of A and B, put back as B's only modifier, reaches A. Crate law_putback proves it of the rules' definitions
 // (law_putback/specs/Demand.antt).
+//
+// docs/PROMISES.md names `put_back` and `put_back_as`, two lines each: one with the second call as a closure would state the closure's
+// contract in place of those lines.
 #![tactic(auto)]
 
 ghost use Rattle.std.specs.Prelude.{◌≡◌, length, MatchResult, Ok, Err};

@@ -5,9 +5,9 @@ use mathlib.Core.Path.{◌≡◌}
 use native.Mathlib.Omega.{arith}
 use Rattle.rules.specs.Moments.{Moment}
 use Rattle.real.specs.InMinute.{in_minute}
-use Rattle.writing.specs.Printable.{Printable}
+use Rattle.moment.specs.Ranges.{Full}
 
-module _ (p : Moment) (h : Printable p) where
+module _ (p : Moment) (h : Full p) where
   pub month : p.month < 100
   month = omega (arith, h.sane.date)
 
@@ -21,4 +21,4 @@ module _ (p : Moment) (h : Printable p) where
   minute = omega (arith, h.sane.time)
 
   pub second : in_minute p.second ≡ true
-  second = h.sane.time.seconds h.stands
+  second = h.sane.time.seconds h.timed

@@ -14,7 +14,7 @@ use Rattle.real.proofs.Seconds.{minute_whole}
 use Rattle.digits.specs.Writers.{unix_decimals}
 use Rattle.digits.proofs.Decimal.{length_exact}
 use Rattle.digits.proofs.Lengths.{length_second, length_decimals, length_seconds}
-use Rattle.writing.specs.Printable.{Printable}
+use Rattle.moment.specs.Ranges.{Full}
 use Rattle.writing.specs.Texts.{date_of, whole_time, decimal_time, half}
 use Rattle.writing.proofs.Fields as field
 use Rattle.writing.proofs.Texts.{date_parts, clock_parts}
@@ -31,7 +31,7 @@ module _ (p : Moment) where
   pub length_clock : p.hour < 100 → p.minute < 100 → length (hour_minute p) ≡ 5
   length_clock h m = omega (arith, ap length (clock_parts p), length-append (wide 2 p.hour) (58 ∷ wide 2 p.minute), length_two p.hour h, length_two p.minute m)
 
-  module _ (h : Printable p) where
+  module _ (h : Full p) where
     clock : length (hour_minute p) ≡ 5
     clock = length_clock (field.hour p h) (field.minute p h)
 
@@ -48,8 +48,8 @@ module _ (p : Moment) where
     length_unix = go p.subsec
       where
         go : (b : Bool) → length (if b then unix_decimals p.ms else integer_text (unix_seconds p.ms)) ≤ 17
-        go true = length_decimals p.ms h.range.from h.range.to
-        go false = omega (arith, length_seconds p.ms h.range.from h.range.to)
+        go true = length_decimals p.ms h.ranged.from h.ranged.to
+        go false = omega (arith, length_seconds p.ms h.ranged.from h.ranged.to)
 
 pub length_half : (am pm : List ℕ) (hour : ℕ) → length am ≡ 2 → length pm ≡ 2 → length (half am pm hour) ≡ 2
 length_half am pm hour a b = go (leb 12 hour)

@@ -23,7 +23,7 @@ use Rattle.calendar.proofs.Weeks.{thursday_date, week_high}
 use Rattle.real.proofs.Seconds.{minute_whole}
 use Rattle.digits.proofs.Decimal.{length_exact}
 use Rattle.digits.proofs.Lengths.{length_spaced, length_year, length_short, length_second, length_julian}
-use Rattle.writing.specs.Printable.{Printable}
+use Rattle.moment.specs.Ranges.{Full}
 use Rattle.writing.specs.Formats.{text_of, IsText, mosts, most_in, most}
 use Rattle.writing.specs.Texts.{date_of}
 use Rattle.writing.proofs.Fields as field
@@ -78,7 +78,7 @@ dial_high h = go (eqb (h % 12) 0)
     go true = omega arith
     go false = omega arith
 
-module _ (p : Moment) (h : Printable p) where
+module _ (p : Moment) (h : Full p) where
   day_high : day_of_year p.year p.month p.day ≤ 365
   day_high = omega (arith, in_year p.year p.month p.day h.sane.date, year_length_lem p.year, leap_le p.year)
 
@@ -86,7 +86,7 @@ module _ (p : Moment) (h : Printable p) where
   week_few w = omega (arith, day_high)
 
   iso_few : length (signed_year 3 (thursday p.ms).year) ≤ 5
-  iso_few = let d = thursday_date p.ms h.range in length_year 3 (thursday p.ms).year (omega arith) (omega (arith, d.low)) d.high
+  iso_few = let d = thursday_date p.ms h.ranged in length_year 3 (thursday p.ms).year (omega arith) (omega (arith, d.low)) d.high
 
   year_few : length (signed_year 3 p.year) ≤ 5
   year_few = length_year 3 p.year (omega arith) h.years.from h.years.to
@@ -110,7 +110,7 @@ module _ (p : Moment) (h : Printable p) where
       then row tt tt (two 72 p.hour hour)
       then row tt tt (two 73 (dial p.hour) (dial_high p.hour))
       then row tt tt (always 106 3 (length_exact 2 (day_of_year p.year p.month p.day + 1) (omega (arith, day_high))))
-      then row tt tt (julian p.ms h.range)
+      then row tt tt (julian p.ms h.ranged)
       then row tt tt (always 107 2 (length_spaced p.hour hour))
       then row tt tt (always 108 2 (length_spaced (dial p.hour) (dial_high p.hour)))
       then row tt tt (two 109 p.month (field.month p h))
@@ -123,7 +123,7 @@ module _ (p : Moment) (h : Printable p) where
       then row tt tt (always 84 8 (length_whole p h))
       then row tt tt (always 117 1 (length_exact 0 (since_monday p.ms + 1) (omega arith)))
       then row tt tt (two 85 _ (week_few (since_sunday p.ms)))
-      then row tt tt (two 86 (iso_week p.ms) (omega (arith, week_high p.ms h.range)))
+      then row tt tt (two 86 (iso_week p.ms) (omega (arith, week_high p.ms h.ranged)))
       then row tt tt (always 119 1 (length_exact 0 (since_sunday p.ms) (omega arith)))
       then row tt tt (two 87 _ (week_few (since_monday p.ms)))
       then row tt tt (sometimes 89 5 tt year_few)
@@ -148,7 +148,7 @@ found p (r ∷ rs) (n ∷ ns) (f then a) b =
     go true e l = some f.some (subst (λ (k : ℕ). Sized k n.1 (r.1 p)) (e refl) f.sized)
     go false e l = l
 
-pub letter_is : (p : Moment) → Printable p → (b : ℕ) → Letter b (most b) (letter b p)
+pub letter_is : (p : Moment) → Full p → (b : ℕ) → Letter b (most b) (letter b p)
 unfolding most letter
 letter_is p h b = found p letters mosts (aligned p h) b
 
@@ -163,7 +163,7 @@ most_in_lem (row ∷ rows) t b = go (is row.0 b) (leb row.1 17) (leb→le row.1 
     go false true f g t = g t
     go c false f g t = absurd t
 
-module _ (p : Moment) (h : Printable p) (b : ℕ) where
+module _ (p : Moment) (h : Full p) (b : ℕ) where
   pub most_length : length (text_of (letter b p)) ≤ most b
   most_length = go (letter_is p h b)
     where

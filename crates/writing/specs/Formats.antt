@@ -4,6 +4,7 @@ use Prim.Native.Char.{Char}
 use Rattle.rules.specs.Basics.{is, Read, got, other, refuse}
 use Rattle.rules.specs.declared.Refusal.{Refusal}
 use Rattle.digits.specs.Writers.{Laid}
+use Rattle.writing.specs.declared.Part.{Part}
 
 -- the text, or none
 abbrev pub text_of : Read (List ℕ) → List ℕ
@@ -52,3 +53,9 @@ most_of (b ∷ c ∷ s) =
     let lettered = most c + most_of s in
     let plain = 1 + most_of (c ∷ s) in
     if is "%" b then lettered else plain
+
+-- what stands at the front of a format f, before the rest
+abbrev pub FrontIs : Part → List ℕ → List ℕ → Type 0
+FrontIs (Part.Byte b) rest f = (b ≡ 37 → ⊥) × (f ≡ b ∷ rest)
+FrontIs (Part.Letter c) rest f = f ≡ 37 ∷ c ∷ rest
+FrontIs Part.Last rest f = f ≡ 37 ∷ []

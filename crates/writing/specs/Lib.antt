@@ -1,4 +1,3 @@
 -- What the contracts cite beside rules' texts.
-pub mod Printable
 pub mod Texts
 pub mod Formats

@@ -1,8 +1,9 @@
 // Dates, times and the letters of strftime, written into the lent buffer, in place.
 //
 // Every writer has the contract of crate digits: it asks for room for its text from `at` on, lays the text there, leaves every other byte
-// as it was, and returns the place after the text. The texts are those of rules, of a record that is `Printable`: in range, its fields
-// standing, as they were read or filled. So an hour 24 and a day past its month's end may be met with.
+// as it was, and returns the place after the text. The texts are those of rules, of a record that is `Full`: in range, its fields
+// standing, as they were read or filled. So an hour 24 and a day past its month's end may be met with. (A clause and not a type: a type
+// around the record would stand in each text and at each field, `held p.moment`, `p.moment.year`, to save that clause.)
 //
 // A format is gone through three times at the most, so that a refusal changes no byte and no answer is written twice:
 // - `check` finds the first refusal, or a bound of the text's length, the sum of its letters' bounds;
@@ -10,14 +11,15 @@
 // - `put_format` writes the text.
 #![tactic(auto)]
 
-ghost use Rattle.std.specs.Prelude.{◌≡◌, ◌≤◌, ◌<◌, ◌^◌, length};
+ghost use Rattle.std.specs.Prelude.{◌≡◌, ◌≤◌, ◌<◌, ◌^◌, ◌++◌, [], length, MatchOption};
+ghost use Rattle.rules.specs.Basics.{ascii};
 ghost use Rattle.rules.specs.Calendar as rule;
 ghost use Rattle.rules.specs.Writing as text;
 ghost use Rattle.moment.specs.Held.{held};
+ghost use Rattle.moment.specs.Ranges.{Full};
 ghost use Rattle.digits.specs.Writers.{Room, Laid};
-ghost use Rattle.writing.specs.Printable.{Printable};
 ghost use Rattle.writing.specs.Texts.{date_of, whole_time, decimal_time, half};
-ghost use Rattle.writing.specs.Formats.{text_of, IsText, most, most_of, PutIs, CheckIs};
+ghost use Rattle.writing.specs.Formats.{text_of, IsText, most, most_of, PutIs, CheckIs, FrontIs};
 
 use calendar::Instant;
 use digits::{
@@ -31,7 +33,7 @@ use rules::{Refusal, Ymd};
 
 // A date. Before the year 0 it has a minus and at least k digits of the year.
 fn put_ymd(buf: &mut [u8], at: usize, k: usize, p: Moment) -> usize
-    requires printable { Printable (held p) }
+    requires full { Full (held p) }
     requires room { Room buf.old at (date_of k (held p)) }
     ensures { Laid buf.old at (date_of k (held p)) buf.new result }
 {
@@ -42,7 +44,7 @@ fn put_ymd(buf: &mut [u8], at: usize, k: usize, p: Moment) -> usize
 
 // `HH:MM`.
 fn put_clock(buf: &mut [u8], at: usize, p: Moment) -> usize
-    requires printable { Printable (held p) }
+    requires full { Full (held p) }
     requires room { Room buf.old at (text.hour_minute (held p)) }
     ensures { Laid buf.old at (text.hour_minute (held p)) buf.new result }
 {
@@ -50,31 +52,39 @@ fn put_clock(buf: &mut [u8], at: usize, p: Moment) -> usize
     put_next(buf, before_minute, b':', p.minute)
 }
 
+// `HH:MM:`, before the seconds.
+fn put_to_second(buf: &mut [u8], at: usize, p: Moment) -> usize
+    requires full { Full (held p) }
+    requires room { Room buf.old at (text.hour_minute (held p) ++ ascii ":") }
+    ensures { Laid buf.old at (text.hour_minute (held p) ++ ascii ":") buf.new result }
+{
+    let colon = put_clock(buf, at, p);
+    put_byte(buf, colon, b':')
+}
+
 // `HH:MM:SS`.
 fn put_whole_time(buf: &mut [u8], at: usize, p: Moment) -> usize
-    requires printable { Printable (held p) }
+    requires full { Full (held p) }
     requires room { Room buf.old at (whole_time (held p)) }
     ensures { Laid buf.old at (whole_time (held p)) buf.new result }
 {
-    let colon = put_clock(buf, at, p);
-    let before_second = put_byte(buf, colon, b':');
-    put_second(buf, before_second, p.second)
+    let second = put_to_second(buf, at, p);
+    put_second(buf, second, p.second)
 }
 
 // `HH:MM:SS.SSS`.
 fn put_decimal_time(buf: &mut [u8], at: usize, p: Moment) -> usize
-    requires printable { Printable (held p) }
+    requires full { Full (held p) }
     requires room { Room buf.old at (decimal_time (held p)) }
     ensures { Laid buf.old at (decimal_time (held p)) buf.new result }
 {
-    let colon = put_clock(buf, at, p);
-    let before_second = put_byte(buf, colon, b':');
-    put_second_decimals(buf, before_second, p.second)
+    let second = put_to_second(buf, at, p);
+    put_second_decimals(buf, second, p.second)
 }
 
 // The text of `date`.
 pub fn put_date(buf: &mut [u8], at: usize, p: Moment) -> usize
-    requires printable { Printable (held p) }
+    requires full { Full (held p) }
     requires room { Room buf.old at (text.date_text (held p)) }
     ensures { Laid buf.old at (text.date_text (held p)) buf.new result }
 {
@@ -83,7 +93,7 @@ pub fn put_date(buf: &mut [u8], at: usize, p: Moment) -> usize
 
 // How many bytes `put_date` takes.
 pub fn date_length(p: Moment) -> usize
-    requires { Printable (held p) }
+    requires { Full (held p) }
     ensures { (result ≡ length (text.date_text (held p))) × (result ≤ 11) }
 {
     year_length(4, p.year) + 6
@@ -91,7 +101,7 @@ pub fn date_length(p: Moment) -> usize
 
 // The text of `time`: "Seconds with subsec: three decimals of the f64, ties to even."
 pub fn put_time(buf: &mut [u8], at: usize, p: Moment) -> usize
-    requires printable { Printable (held p) }
+    requires full { Full (held p) }
     requires room { Room buf.old at (text.time_text (held p)) }
     ensures { Laid buf.old at (text.time_text (held p)) buf.new result }
 {
@@ -104,7 +114,7 @@ pub fn put_time(buf: &mut [u8], at: usize, p: Moment) -> usize
 
 // How many bytes `put_time` takes.
 pub fn time_length(p: Moment) -> usize
-    requires { Printable (held p) }
+    requires { Full (held p) }
     ensures { (result ≡ length (text.time_text (held p))) × (result ≤ 12) }
 {
     if p.subsec { 12 } else { 8 }
@@ -132,7 +142,7 @@ fn put_half(buf: &mut [u8], at: usize, hour: u32, am: &[u8], pm: &[u8]) -> usize
 
 // The days of the year that are before the record's.
 fn day_of_year(p: Moment) -> u32
-    requires { Printable (held p) }
+    requires { Full (held p) }
     ensures { (result ≡ rule.day_of_year p.year p.month p.day) × (result ≤ 365) }
 {
     calendar::day_of_year(Ymd {
@@ -144,7 +154,7 @@ fn day_of_year(p: Moment) -> u32
 
 // The week of the year, for weeks that begin on the day of the week since which `since` days have passed: 0 to 53.
 fn week(p: Moment, since: u32) -> u32
-    requires printable { Printable (held p) }
+    requires full { Full (held p) }
     requires in_week { since ≤ 6 }
     ensures { (result ≡ text.week (held p) since) × (result ≤ 53) }
 {
@@ -153,7 +163,7 @@ fn week(p: Moment, since: u32) -> u32
 
 // The seconds since the Unix epoch.
 fn put_unix(buf: &mut [u8], at: usize, p: Moment) -> usize
-    requires printable { Printable (held p) }
+    requires full { Full (held p) }
     requires room { Room buf.old at (text.unix_text (held p)) }
     ensures { Laid buf.old at (text.unix_text (held p)) buf.new result }
 {
@@ -166,7 +176,7 @@ fn put_unix(buf: &mut [u8], at: usize, p: Moment) -> usize
 
 // How many bytes `put_unix` takes.
 fn unix_length(p: Moment) -> usize
-    requires { Printable (held p) }
+    requires { Full (held p) }
     ensures { result ≡ length (text.unix_text (held p)) }
 {
     if p.subsec {
@@ -193,12 +203,13 @@ fn put_julian_day(buf: &mut [u8], at: usize, instant: Instant) -> Result<usize, 
     Ok(digits::put_julian(buf, at, instant.ms))
 }
 
-// "Twenty-six letters and the percent sign are read after a `%` .. Another letter .. gives 1."
+// "Twenty-six letters and the percent sign are read after a `%` .. Another letter .. gives 1." A match, as a table would hold function
+// pointers.
 //
 // It stays a function: inlined into the loop over a format, it would have what any letter may ask worked out before the first.
 #[inline(never)]
 fn put_letter(buf: &mut [u8], at: usize, p: Moment, c: u8) -> Result<usize, Refusal>
-    requires printable { Printable (held p) }
+    requires full { Full (held p) }
     requires room { Room buf.old at (text_of (text.letter c (held p))) }
     ensures { PutIs (text.letter c (held p)) buf.old at buf.new result }
 {
@@ -235,29 +246,29 @@ fn put_letter(buf: &mut [u8], at: usize, p: Moment, c: u8) -> Result<usize, Refu
     }
 }
 
-// The bytes that a letter writes at the most: as many as it always writes, but for F g G J s Y. 0 for what is no letter.
+// The bytes that a letter writes at the most: as many as it always writes, but for F g G J s Y. None for what is no letter.
 //
 // No arm has two letters in a row: the two would be one range, whose tests have no names in a proof.
-fn letter_most(c: u8) -> usize
-    ensures { (result ≡ most c) × (result ≤ 17) }
+fn letter_most(c: u8) -> Option<usize>
+    ensures { MatchOption result (most c ≡ 0) (λ n. (n ≡ most c) × (0 < n) × (n ≤ 17)) }
 {
     match c {
-        b'u' | b'w' | b'%' => 1,
-        b'd' | b'H' | b'm' | b'M' => 2,
-        b'I' | b'S' | b'U' | b'W' => 2,
-        b'e' | b'k' | b'V' => 2,
-        b'l' | b'p' | b'P' => 2,
-        b'g' | b'j' => 3,
-        b'G' | b'R' | b'Y' => 5,
-        b'f' => 6,
-        b'T' => 8,
-        b'F' => 11,
-        b'J' | b's' => 17,
-        _ => 0,
+        b'u' | b'w' | b'%' => Some(1),
+        b'd' | b'H' | b'm' | b'M' => Some(2),
+        b'I' | b'S' | b'U' | b'W' => Some(2),
+        b'e' | b'k' | b'V' => Some(2),
+        b'l' | b'p' | b'P' => Some(2),
+        b'g' | b'j' => Some(3),
+        b'G' | b'R' | b'Y' => Some(5),
+        b'f' => Some(6),
+        b'T' => Some(8),
+        b'F' => Some(11),
+        b'J' | b's' => Some(17),
+        _ => None,
     }
 }
 
-// How many bytes `put_julian_day` takes; 0 where it is refused.
+// How many bytes `put_julian_day` takes; 0 where it is refused, as a refusal has no text (`text_of`).
 #[tactic(auto, using(crate::proofs::Texts::julian_early, crate::proofs::Texts::julian_late))]
 fn julian_day_length(instant: Instant) -> usize
     ensures { result ≡ length (text_of (text.julian_letter instant.ms)) }
@@ -268,9 +279,9 @@ fn julian_day_length(instant: Instant) -> usize
     digits::julian_length(instant.ms)
 }
 
-// How many bytes `put_letter` takes; 0 where it is refused.
+// How many bytes `put_letter` takes; 0 where it is refused, as above.
 fn letter_length(p: Moment, c: u8) -> usize
-    requires { Printable (held p) }
+    requires { Full (held p) }
     ensures { (result ≡ length (text_of (text.letter c (held p)))) × (result ≤ 17) }
 {
     let instant = Instant { ms: p.ms };
@@ -281,43 +292,64 @@ fn letter_length(p: Moment, c: u8) -> usize
         b'J' => julian_day_length(instant),
         b's' => unix_length(p),
         b'Y' => year_length(3, p.year),
-        _ => letter_most(c),
+        _ => letter_most(c).unwrap_or(0),
     }
 }
 
 // ---- a format
 
+// What stands at the front of a format.
+enum Part {
+    // a byte that stands for itself
+    Byte(u8),
+    // a `%` and this letter
+    Letter(u8),
+    // a `%` that ends the format
+    Last,
+}
+
+// The front of a format, and what follows it.
+#[inline]
+fn next_part(format: &[u8]) -> Option<(Part, &[u8])>
+    ensures { MatchOption result (format.now ≡ []) (λ r. FrontIs r.0 r.1.now format.now) }
+{
+    let (b, rest) = format.split_first()?;
+    if *b != b'%' {
+        return Some((Part::Byte(*b), rest));
+    }
+    match rest.split_first() {
+        Some((c, rest)) => Some((Part::Letter(*c), rest)),
+        None => Some((Part::Last, rest)),
+    }
+}
+
 // What `put_letter` will answer: its refusal, or the letter's bound.
 fn check_letter(p: Moment, c: u8) -> Result<usize, Refusal>
-    requires { Printable (held p) }
+    requires { Full (held p) }
     ensures { CheckIs (text.letter c (held p)) (most c) result }
 {
-    match letter_most(c) {
-        0 => Err(Refusal::Null),
-        _ if c == b'J' && p.ms < EARLY => Err(Refusal::Early),
-        n => Ok(n),
+    let most = letter_most(c).ok_or(Refusal::Null)?;
+    if c == b'J' && p.ms < EARLY {
+        return Err(Refusal::Early);
     }
+    Ok(most)
 }
 
 // "format left to right (with 6)": the first refusal, or the sum of the letters' bounds, one for any other byte. A last `%` gives 1. No
 // format is so long that 17 times its length would not fit.
 pub fn check(p: Moment, format: &[u8]) -> Result<usize, Refusal>
-    requires printable { Printable (held p) }
+    requires full { Full (held p) }
     requires short { length format.now < 2 ^ 58 }
     ensures { CheckIs (text.formatted (held p) format.now) (most_of format.now) result }
 {
     let mut left = format;
     let mut most = 0;
-    while let Some((b, rest)) = left.split_first() {
-        if *b != b'%' {
-            most += 1;
-            left = rest;
-            continue;
-        }
-        let Some((c, rest)) = rest.split_first() else {
-            return Err(Refusal::Null);
+    while let Some((part, rest)) = next_part(left) {
+        most += match part {
+            Part::Byte(_) => 1,
+            Part::Letter(c) => check_letter(p, c)?,
+            Part::Last => return Err(Refusal::Null),
         };
-        most += check_letter(p, *c)?;
         left = rest;
     }
     Ok(most)
@@ -325,21 +357,19 @@ pub fn check(p: Moment, format: &[u8]) -> Result<usize, Refusal>
 
 // How many bytes `put_format` takes, for a format that `check` let through.
 pub fn format_length(p: Moment, format: &[u8]) -> usize
-    requires printable { Printable (held p) }
+    requires full { Full (held p) }
     requires short { length format.now < 2 ^ 58 }
     requires is_text { IsText (text.formatted (held p) format.now) }
     ensures { result ≡ length (text_of (text.formatted (held p) format.now)) }
 {
     let mut left = format;
     let mut n = 0;
-    while let Some((b, rest)) = left.split_first() {
-        if *b != b'%' {
-            n += 1;
-            left = rest;
-            continue;
-        }
-        let (c, rest) = rest.split_first().unwrap();
-        n += letter_length(p, *c);
+    while let Some((part, rest)) = next_part(left) {
+        n += match part {
+            Part::Byte(_) => 1,
+            Part::Letter(c) => letter_length(p, c),
+            Part::Last => unreachable!(),
+        };
         left = rest;
     }
     n
@@ -348,21 +378,19 @@ pub fn format_length(p: Moment, format: &[u8]) -> usize
 // What a format that `check` let through writes: a `%` and a letter stand for what the letter writes, any other byte for itself. So no
 // letter is refused here.
 pub fn put_format(buf: &mut [u8], at: usize, p: Moment, format: &[u8]) -> Result<usize, Refusal>
-    requires printable { Printable (held p) }
+    requires full { Full (held p) }
     requires is_text { IsText (text.formatted (held p) format.now) }
     requires room { Room buf.old at (text_of (text.formatted (held p) format.now)) }
     ensures { PutIs (text.formatted (held p) format.now) buf.old at buf.new result }
 {
     let mut left = format;
     let mut next = at;
-    while let Some((b, rest)) = left.split_first() {
-        if *b != b'%' {
-            next = put_byte(buf, next, *b);
-            left = rest;
-            continue;
-        }
-        let (c, rest) = rest.split_first().unwrap();
-        next = put_letter(buf, next, p, *c)?;
+    while let Some((part, rest)) = next_part(left) {
+        next = match part {
+            Part::Byte(b) => put_byte(buf, next, b),
+            Part::Letter(c) => put_letter(buf, next, p, c)?,
+            Part::Last => unreachable!(),
+        };
         left = rest;
     }
     Ok(next)

@@ -1,35 +1,31 @@
 -- `writing::check` meets its contract. Assumes nothing.
-use mathlib.Core.Path.{◌≡◌}
-use mathlib.Core.List.{[]}
 use native.Mathlib.Omega.{arith}
-use Rattle.std.proofs.lemmas.List.{nil_from_length}
+use mathlib.Core.Path.{refl}
 use Rattle.std.proofs.lemmas.Result.{err_from_is_err_and}
 use Rattle.writing.proofs.Loops.{bounded_fits, bounded_plain, bounded_letter, bounded_refused, bounded_last, bounded_end}
 use Rattle.writing.proofs.check.Goals as goal
+use Rattle.writing.proofs.check.Goals.{in-Byte, in-Letter+in_ok-most-in-Letter}
+
+pub returns-in_err-most-in-Letter : goal.returns-in_err-most-in-Letter
+returns-in_err-most-in-Letter c =
+    let h = err_from_is_err_and c.from_residual.result c.from_residual.ensures.1 in
+    let front = rw c.in-Letter.is at c.in-Some.ensures in
+    rw (h.1, h.2) (bounded_refused refl (rw front at c.loop-part.invariant) _ _ (rw c.in_err-most-in-Letter.was at c.check_letter.ensures))
+
+pub returns-in-Last : goal.returns-in-Last
+returns-in-Last c = let front = rw c.in-Last.is at c.in-Some.ensures in bounded_last _ refl (rw front at c.loop-part.invariant)
 
 pub overflow_add-most : goal.overflow_add-most
-overflow_add-most c = omega (arith, c.requires.short, bounded_fits c.loop-b.invariant)
+overflow_add-most c = elim c.match-part.branch [
+    in-Byte w ↦ let front = rw w.in-Byte.is at c.in-Some.ensures in omega (arith, c.requires.short, w.most-is, bounded_fits (bounded_plain front.0 (rw front.1 at c.loop-part.invariant)))
+  | in-Letter+in_ok-most-in-Letter w ↦ let front = rw w.in-Letter.is at c.in-Some.ensures in omega (arith, c.requires.short, w.most-is, bounded_fits (bounded_letter refl (rw front at c.loop-part.invariant) _ (rw w.in_ok-most-in-Letter.was at w.check_letter.ensures)))
+]
 
-pub loop-b-preserved-then-b-ne37 : goal.loop-b-preserved-then-b-ne37
-loop-b-preserved-then-b-ne37 c = bounded_plain c.if-b-ne37.true (rw c.in-Some.ensures.cases.0 at c.loop-b.invariant)
-
-pub returns-in_default-split_first : goal.returns-in_default-split_first
-returns-in_default-split_first c =
-    let none : c.in-Some.rest.now ≡ [] = nil_from_length _ c.in_default-split_first.ensures.cases in
-    bounded_last _ c.if-b-ne37.false (rw (c.in-Some.ensures.cases.0, none) at c.loop-b.invariant)
-
-pub returns-in_err-most : goal.returns-in_err-most
-returns-in_err-most c =
-    let p = err_from_is_err_and c.from_residual.result c.from_residual.ensures.1 in
-    rw (p.1, p.2) (bounded_refused c.if-b-ne37.false (rw (c.in-Some.ensures.cases.0, c.in-Some-split_first.ensures.cases.0) at c.loop-b.invariant) _ _ (rw c.in_err-most.was at c.check_letter.ensures))
-
-pub overflow_add-most-in-Some : goal.overflow_add-most-in-Some
-overflow_add-most-in-Some c = omega (arith, c.requires.short, bounded_fits (bounded_letter c.if-b-ne37.false (rw (c.in-Some.ensures.cases.0, c.in-Some-split_first.ensures.cases.0) at c.loop-b.invariant) _ (rw c.in_ok-most.was at c.check_letter.ensures)))
-
-pub loop-b-preserved : goal.loop-b-preserved
-loop-b-preserved c = bounded_letter c.if-b-ne37.false (rw (c.in-Some.ensures.cases.0, c.in-Some-split_first.ensures.cases.0) at c.loop-b.invariant) _ (rw c.in_ok-most.was at c.check_letter.ensures)
+pub loop-part-preserved : goal.loop-part-preserved
+loop-part-preserved c = elim c.match-part.branch [
+    in-Byte w ↦ let front = rw w.in-Byte.is at c.in-Some.ensures in rw w.most-is (bounded_plain front.0 (rw front.1 at c.loop-part.invariant))
+  | in-Letter+in_ok-most-in-Letter w ↦ let front = rw w.in-Letter.is at c.in-Some.ensures in rw w.most-is (bounded_letter refl (rw front at c.loop-part.invariant) _ (rw w.in_ok-most-in-Letter.was at w.check_letter.ensures))
+]
 
 pub returns : goal.returns
-returns c =
-    let none : c.loop-b.left.now ≡ [] = nil_from_length _ c.in_default.ensures.cases in
-    bounded_end (rw none at c.loop-b.invariant)
+returns c = bounded_end (rw c.in_default.ensures at c.loop-part.invariant)

@@ -1,21 +1,19 @@
 -- `writing::format_length` meets its contract. Assumes nothing.
-use mathlib.Core.Path.{◌≡◌}
-use mathlib.Core.List.{[]}
-use Rattle.std.proofs.lemmas.List.{nil_from_length}
+use native.Mathlib.Omega.{arith}
+use mathlib.Core.Path.{refl}
 use Rattle.writing.proofs.Formats.{letter_follows}
 use Rattle.writing.proofs.Loops.{counted_plain, counted_letter, counted_end}
 use Rattle.writing.proofs.format_length.Goals as goal
+use Rattle.writing.proofs.format_length.Goals.{in-Byte, in-Letter}
 
-pub loop-b-preserved-then-b-ne37 : goal.loop-b-preserved-then-b-ne37
-loop-b-preserved-then-b-ne37 c = counted_plain c.if-b-ne37.true (rw c.in-Some.ensures.cases.0 at c.loop-b.invariant)
+pub unreachable-requires : goal.unreachable-requires
+unreachable-requires c = let front = rw c.in-Last.is at c.in-Some.ensures in omega (arith, letter_follows c.requires.is_text _ refl (rw front at c.loop-part.invariant).passed)
 
-pub unwrap-requires : goal.unwrap-requires
-unwrap-requires c = c.split_first-in-Some.ensures.variant.1 (letter_follows c.requires.is_text _ c.if-b-ne37.false (rw c.in-Some.ensures.cases.0 at c.loop-b.invariant).passed)
-
-pub loop-b-preserved : goal.loop-b-preserved
-loop-b-preserved c = counted_letter c.requires.is_text c.if-b-ne37.false (rw (c.in-Some.ensures.cases.0, (rw c.unwrap.ensures at c.split_first-in-Some.ensures.cases).0) at c.loop-b.invariant) c.letter_length-n.ensures.0 c.letter_length-n.ensures.1
+pub loop-part-preserved : goal.loop-part-preserved
+loop-part-preserved c = elim c.match-part.branch [
+    in-Byte w ↦ let front = rw w.in-Byte.is at c.in-Some.ensures in rw w.n-is (counted_plain front.0 (rw front.1 at c.loop-part.invariant))
+  | in-Letter w ↦ let front = rw w.in-Letter.is at c.in-Some.ensures in rw w.n-is (counted_letter c.requires.is_text refl (rw front at c.loop-part.invariant) w.letter_length.ensures.0 w.letter_length.ensures.1)
+]
 
 pub returns : goal.returns
-returns c =
-    let none : c.loop-b.left.now ≡ [] = nil_from_length _ c.in_default.ensures.cases in
-    counted_end (rw none at c.loop-b.invariant)
+returns c = counted_end (rw c.in_default.ensures at c.loop-part.invariant)

@@ -1,23 +1,31 @@
 -- `writing::letter_length` meets its contract. Assumes nothing.
-use Prim.Native.Nat.{ℕ, ◌≤◌}
+use Prim.Native.Nat.{ℕ, ◌≤◌, ◌<◌}
 use mathlib.Core.Path.{◌≡◌, sym, ap, ◌∙◌}
 use native.Mathlib.Omega.{arith}
+use lib.Dec.{lit≤}
 use lib.ListN.{length}
+use Rattle.std.specs.Prelude.{Option, Some, None, MatchOption}
+use Rattle.std.specs.Option.{unwrap_or}
 use Rattle.rules.specs.Moments.{Moment}
 use Rattle.rules.specs.Writing.{letter, letters, writer, year_short, signed_year}
 use Rattle.rules.specs.declared.Ymd.{Ymd}
 use Rattle.moment.specs.Held.{held}
 use Rattle.digits.proofs.Lengths.{length_year}
-use Rattle.writing.specs.Printable.{Printable}
+use Rattle.moment.specs.Ranges.{Full}
 use Rattle.writing.specs.Formats.{text_of}
 use Rattle.writing.proofs.Lengths.{length_date}
 use Rattle.writing.proofs.Letters.{seventeen, exact_length}
 use Rattle.writing.proofs.letter_length.Goals as goal
 
-answer : (p : Moment) → Printable p → (c k n : ℕ) → c ≡ k → n ≡ length (text_of (letter k p)) → (n ≡ length (text_of (letter c p))) × (n ≤ 17)
+answer : (p : Moment) → Full p → (c k n : ℕ) → c ≡ k → n ≡ length (text_of (letter k p)) → (n ≡ length (text_of (letter c p))) × (n ≤ 17)
 answer p h c k n e i =
     let j : n ≡ length (text_of (letter c p)) = i ∙ ap (λ (b : ℕ). length (text_of (letter b p))) (sym e) in
     (j, omega (arith, j, seventeen p h c))
+
+-- no letter writes at most 0 bytes
+unwrap_most : (o : Option ℕ) (most : ℕ) → MatchOption o (most ≡ 0) (λ n. (n ≡ most) × (0 < n) × (n ≤ 17)) → (unwrap_or o 0 ≡ most) × (unwrap_or o 0 ≤ 17)
+unwrap_most None most h = (sym h, lit≤ tt)
+unwrap_most (Some n) most h = (h.0, h.2)
 
 pub overflow_add-result : goal.overflow_add-result
 overflow_add-result c = omega (arith, c.year_length.ensures, length_year 3 c.args.p.year)
@@ -47,4 +55,7 @@ unfolding letter letters writer
 returns-in-89 c = answer (held c.args.p) c.requires _ 89 _ c.in-89.is (c.year_length-in-89.ensures)
 
 pub returns-in_default : goal.returns-in_default
-returns-in_default c = let e = c.letter_most.ensures in (e.0 ∙ sym (exact_length (held c.args.p) c.requires c.args.c c.in_default.in_default-own.rest), e.1)
+returns-in_default c =
+    let e = unwrap_most _ _ c.letter_most.ensures in
+    let exact = exact_length (held c.args.p) c.requires c.args.c c.in_default.in_default-own.rest in
+    (c.unwrap_or.ensures ∙ e.0 ∙ sym exact, rw c.unwrap_or.ensures e.1)

@@ -3,4 +3,4 @@ use Rattle.digits.proofs.Buffer.{laid_then}
 use Rattle.writing.proofs.put_decimal_time.Goals as goal
 
 pub returns : goal.returns
-returns c = laid_then (laid_then c.put_clock-colon.ensures c.put_byte-before_second.ensures) c.put_second_decimals.ensures
+returns c = laid_then c.put_to_second-second.ensures c.put_second_decimals.ensures
