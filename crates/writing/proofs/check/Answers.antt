@@ -17,13 +17,13 @@ returns-in-Last c = let front = rw c.in-Last.is at c.in-Some.ensures in bounded_
 
 pub overflow_add-most : goal.overflow_add-most
 overflow_add-most c = elim c.match-part.branch [
-    in-Byte w ↦ let front = rw w.in-Byte.is at c.in-Some.ensures in omega (arith, c.requires.short, w.most-is, bounded_fits (bounded_plain front.0 (rw front.1 at c.loop-part.invariant)))
+  | in-Byte w ↦ let front = rw w.in-Byte.is at c.in-Some.ensures in omega (arith, c.requires.short, w.most-is, bounded_fits (bounded_plain front.0 (rw front.1 at c.loop-part.invariant)))
   | in-Letter+in_ok-most-in-Letter w ↦ let front = rw w.in-Letter.is at c.in-Some.ensures in omega (arith, c.requires.short, w.most-is, bounded_fits (bounded_letter refl (rw front at c.loop-part.invariant) _ (rw w.in_ok-most-in-Letter.was at w.check_letter.ensures)))
 ]
 
 pub loop-part-preserved : goal.loop-part-preserved
 loop-part-preserved c = elim c.match-part.branch [
-    in-Byte w ↦ let front = rw w.in-Byte.is at c.in-Some.ensures in rw w.most-is (bounded_plain front.0 (rw front.1 at c.loop-part.invariant))
+  | in-Byte w ↦ let front = rw w.in-Byte.is at c.in-Some.ensures in rw w.most-is (bounded_plain front.0 (rw front.1 at c.loop-part.invariant))
   | in-Letter+in_ok-most-in-Letter w ↦ let front = rw w.in-Letter.is at c.in-Some.ensures in rw w.most-is (bounded_letter refl (rw front at c.loop-part.invariant) _ (rw w.in_ok-most-in-Letter.was at w.check_letter.ensures))
 ]
 

@@ -11,7 +11,7 @@ unreachable-requires c = let front = rw c.in-Last.is at c.in-Some.ensures in ome
 
 pub loop-part-preserved : goal.loop-part-preserved
 loop-part-preserved c = elim c.match-part.branch [
-    in-Byte w ↦ let front = rw w.in-Byte.is at c.in-Some.ensures in rw w.n-is (counted_plain front.0 (rw front.1 at c.loop-part.invariant))
+  | in-Byte w ↦ let front = rw w.in-Byte.is at c.in-Some.ensures in rw w.n-is (counted_plain front.0 (rw front.1 at c.loop-part.invariant))
   | in-Letter w ↦ let front = rw w.in-Letter.is at c.in-Some.ensures in rw w.n-is (counted_letter c.requires.is_text refl (rw front at c.loop-part.invariant) w.letter_length.ensures.0 w.letter_length.ensures.1)
 ]
 
