@@ -133,7 +133,8 @@ fn answer(set: Setting, s: &[u8], room: &mut [u8; 8192], out: &mut [u8]) -> usiz
     text_length(lines::line(set, s, room, out))
 }
 
-// How many bytes a text has that found room: no other answer comes of a line.
+// How many bytes a text has that found room: no other answer comes of a line. As a match in `answer` it was tried, and the proof didn't
+// close: the arm of all other answers has no fact to use.
 fn text_length(a: Result<Answer, Unanswered>) -> usize
     ensures { result ≡ text_length a }
 {

@@ -1,2 +1,3 @@
--- What the contracts cite of a program's input.
+-- What the contracts cite: a program's input, and the numbers in it.
 pub mod Lines
+pub mod Numbers

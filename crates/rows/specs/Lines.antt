@@ -1,9 +1,9 @@
--- The lines of an input, and the calls at them.
-use Rattle.std.specs.Prelude.{ℕ, ◌≡◌, if◌then◌else◌, List, [], ◌∷◌, ◌++◌, Option, eqb, take}
-use Rattle.std.specs.List.{FoldsTo}
+-- The lines of an input, the calls at them, and what is written for them.
+use Rattle.std.specs.Prelude.{ℕ, ◌-◌, ◌≡◌, ◌||◌, if◌then◌else◌, List, [], ◌∷◌, ◌++◌, Option, eqb, length, take}
+use Rattle.std.specs.List.{FoldsTo, ends_with}
 use Rattle.std.specs.Fn.{Mut, Called}
 use Rattle.std.specs.Borrow.{MutBor}
-use Rattle.std.specs.Io.KnownBytes.{Consumes}
+use Rattle.std.specs.Io.KnownBytes.{Appends, Consumes}
 
 -- a line with one byte more, if it has room for it
 abbrev pub kept : ℕ → List ℕ → ℕ → List ℕ
@@ -25,3 +25,15 @@ pub record CalledAtLine {F R : Type 0} (g : Mut F (MutBor (List ℕ) × Unit {0}
 -- f was called at each line that ends in what was taken of the input, in order
 abbrev pub CalledAtLines : {F R : Type 0} → Mut F (MutBor (List ℕ) × Unit {0}) (R × (MutBor (List ℕ) × Unit {0})) → F → Option (List ℕ) → Option (List ℕ) → ℕ → Type 0
 CalledAtLines {F} g f old new room = (taken : List ℕ) × (last : F) × Consumes old new taken × FoldsTo (CalledAtLine g) f (ended_lines room [] taken) last
+
+-- a line without its newline
+abbrev pub content : List ℕ → List ℕ
+content line = if ends_with eqb line (10 ∷ []) then take (length line - 1) line else line
+
+-- a tab and a newline end a field: a zero byte stands for them
+abbrev pub field_byte : ℕ → ℕ
+field_byte b = if eqb b 9 || eqb b 10 then 0 else b
+
+-- as much of a text is written as the writer took, from its front
+abbrev pub Says : Option (List ℕ) → Option (List ℕ) → List ℕ → Type 0
+Says old new text = (n : ℕ) × Appends old new (take n text)

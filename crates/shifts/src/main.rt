@@ -24,15 +24,24 @@ fn main(rt: HostRuntime) {
     });
 }
 
+// An answer, with its newline: one text and so one write.
 fn row(stdout: &mut Stdout, line: &[u8], clock: Clock, offset: Offset) {
     match julianday(line, clock, offset) {
-        Ok(x) => rows::float(stdout, x),
-        Err(Refusal::Shape) => rows::say(stdout, b"refused 2"),
-        Err(Refusal::Bytes) => rows::say(stdout, b"refused 3"),
-        Err(Refusal::Decimal) => rows::say(stdout, b"refused 5"),
-        Err(_) => rows::say(stdout, b"null"),
+        Ok(x) => float(stdout, x),
+        Err(Refusal::Shape) => rows::say(stdout, b"refused 2\n"),
+        Err(Refusal::Bytes) => rows::say(stdout, b"refused 3\n"),
+        Err(Refusal::Decimal) => rows::say(stdout, b"refused 5\n"),
+        Err(_) => rows::say(stdout, b"null\n"),
     }
-    rows::say(stdout, b"\n");
+}
+
+// No answer is a NaN.
+fn float(stdout: &mut Stdout, x: f64) {
+    if !x.is_nan() {
+        let mut text = [b'\n'; 17];
+        digits::put_hex(&mut text, 0, x);
+        rows::say(stdout, &text);
+    }
 }
 
 // A call: its name, its time value and its modifiers, each ended by a zero byte. Refusals 2 and 3 come first.

@@ -8,7 +8,7 @@
 ghost use Rattle.std.specs.Prelude.{◌≤◌, ◌<◌};
 
 use calendar::Instant;
-use std::io::Write;
+use std::io::Stdout;
 
 // The millisecond 0 as held: noon of -4713-11-24, here the day 0.
 const NOON: u64 = 9223372036854775808;
@@ -20,7 +20,7 @@ const DAY_ZERO: u32 = 327;
 const LAST: u32 = 5373484;
 
 // The years 0 and -4800 as held.
-const YEAR_0: i64 = 40000;
+const YEAR_0: u32 = 40000;
 
 const YEAR_LOW: u32 = 35200;
 
@@ -33,19 +33,23 @@ pub struct Digests {
     ghost b_reduced: { b < 2147483629 },
 }
 
-// The noon of a day.
-fn noon(day: u32) -> Instant
-    requires { day ≤ 5373484 }
-{
-    let ms = NOON + u64::from(day) * 86400000;
-    Instant { ms }
+// A day, from the day 0 on.
+#[derive(Clone, Copy)]
+pub struct Day {
+    pub number: u32,
+    ghost within: { number ≤ 5373484 },
 }
 
-// The year of a day, as held.
-fn year_of(day: u32) -> u32
-    requires { day ≤ 5373484 }
-{
-    noon(day).civil().year
+impl Day {
+    fn noon(self) -> Instant {
+        let ms = NOON + u64::from(self.number) * 86400000;
+        Instant { ms }
+    }
+
+    // Its year, as held.
+    fn year(self) -> u32 {
+        self.noon().civil().year
+    }
 }
 
 // The day of a noon, found back from its date.
@@ -79,37 +83,53 @@ impl Digests {
     }
 
     // With all eight numbers of a day more.
-    fn with_day(self, day: u32) -> Digests
-        requires { day ≤ 5373484 }
-    {
-        let noon = noon(day);
+    fn with_day(self, day: Day) -> Digests {
+        let noon = day.noon();
         self.with_date(noon).with_week(noon).with(day_back(noon))
     }
 }
 
-// The digests of the days of a thousand years, from the first of them on, and the first day after them.
-fn walked(first: u32) -> (Digests, u32)
-    requires { first ≤ 5373484 }
-    ensures { (first < result.1) × (result.1 ≤ 5373485) }
+// The digests of the days of a thousand years, from the first of them on, and the number of the first day after them.
+fn walked(first: Day) -> (Digests, u32)
+    ensures { (first.number < result.1) × (result.1 ≤ 5373485) }
 {
-    let thousand = year_of(first) / 1000;
+    let thousand = first.year() / 1000;
     let mut digests = Digests { a: 0, b: 0 }.with_day(first);
-    let mut next = first + 1;
-    while next <= LAST && year_of(next) / 1000 == thousand {
-        digests = digests.with_day(next);
-        next += 1;
+    for number in first.number + 1..=LAST {
+        let day = Day { number };
+        if day.year() / 1000 != thousand {
+            return (digests, number);
+        }
+        digests = digests.with_day(day);
     }
-    (digests, next)
+    (digests, LAST + 1)
+}
+
+// A year as people write it, with a minus before 0.
+fn say_year(stdout: &mut Stdout, year: u32) {
+    if year < YEAR_0 {
+        rows::say(stdout, b"-");
+    }
+    rows::decimal(stdout, u64::from(year.abs_diff(YEAR_0)));
+}
+
+// A number after a space.
+fn say_next(stdout: &mut Stdout, n: u64) {
+    rows::say(stdout, b" ");
+    rows::decimal(stdout, n);
 }
 
 fn main(rt: HostRuntime) {
     let mut stdout = rt.stdout();
-    let mut day = 0;
-    while day <= LAST {
-        let (digests, next) = walked(day);
-        let year = i64::from(year_of(day)) - YEAR_0;
-        // What can't be written is left out: the stored answers show that.
-        let _ = writeln!(stdout, "{year} {} {} {}", next - day, digests.a, digests.b);
-        day = next;
+    let mut number = 0;
+    while number <= LAST {
+        let first = Day { number };
+        let (digests, next) = walked(first);
+        say_year(&mut stdout, first.year());
+        say_next(&mut stdout, u64::from(next - number));
+        say_next(&mut stdout, digests.a);
+        say_next(&mut stdout, digests.b);
+        rows::say(&mut stdout, b"\n");
+        number = next;
     }
 }

@@ -15,7 +15,8 @@ pub enum Which {
     Timediff,
 }
 
-// A call as a line names it.
+// A call as a line names it. `format` and `second` stand beside the name: as fields of an enum they would need a second enum for the name
+// alone, which is read before them.
 #[derive(Clone, Copy)]
 pub struct Call<'a> {
     pub set: Setting,
@@ -134,7 +135,8 @@ fn byte(s: &[u8]) -> Option<(u8, &[u8])>
     }
 }
 
-// The bytes that a field writes, laid at the front of `bytes`, and the rest of that.
+// The bytes that a field writes, laid at the front of `bytes`, and the rest of that. They are counted, since both parts are handed back:
+// whoever went on with the rest alone would have lost the front.
 fn laid<'a>(s: &[u8], bytes: &'a mut [u8]) -> Option<(&'a [u8], &'a mut [u8])> {
     let mut n = 0;
     let mut rest = s;

@@ -1,8 +1,9 @@
 // What is written, and the pattern by which every byte of the buffer is known again.
 ghost use Rattle.std.specs.Prelude.{◌≤◌, length};
 
-use rules::{Answer, Unanswered};
-use std::io::{Stdout, Write};
+use itoa::Buffer;
+use rules::{Answer, Refusal, Unanswered};
+use std::io::Stdout;
 
 // ---- the pattern
 
@@ -18,7 +19,7 @@ pub fn fill(buffer: &mut [u8]) {
     }
 }
 
-// Whether every byte from a place on is the pattern's.
+// Whether every byte from a place on is the pattern's, which goes by the place in the whole buffer: a rest would need that beside it.
 fn is_kept(buffer: &[u8], from: usize) -> bool {
     buffer
         .iter()
@@ -47,15 +48,14 @@ pub fn report(stdout: &mut Stdout, answer: Result<Answer, Unanswered>, buffer: &
     match answer {
         Ok(Answer::Text(n)) => return text(stdout, buffer, n),
         Ok(Answer::Integer(n)) => {
-            let _ = write!(stdout, "integer {n}");
+            rows::say(stdout, b"integer ");
+            rows::say(stdout, Buffer::new().format(n).as_bytes());
         }
         Ok(Answer::Real(x)) => {
             rows::say(stdout, b"real ");
             rows::float(stdout, x);
         }
-        Err(Unanswered::Refused(refusal)) => {
-            let _ = write!(stdout, "refused {}", u32::from(refusal));
-        }
+        Err(Unanswered::Refused(refusal)) => rows::say(stdout, refused(refusal)),
         Err(Unanswered::NoRoom(n)) => counted(stdout, b"no room ", n),
     }
     settle(stdout, buffer, 0);
@@ -64,7 +64,19 @@ pub fn report(stdout: &mut Stdout, answer: Result<Answer, Unanswered>, buffer: &
 // A word, and a number of bytes.
 fn counted(stdout: &mut Stdout, word: &[u8], n: usize) {
     rows::say(stdout, word);
-    let _ = streams::print_decimal(stdout, n as u64);
+    rows::decimal(stdout, n as u64);
+}
+
+// The number in the table of document 01. A refusal's words are one text, so that each is one write.
+fn refused(refusal: Refusal) -> &'static [u8] {
+    match refusal {
+        Refusal::Null => b"refused 1",
+        Refusal::Shape => b"refused 2",
+        Refusal::Bytes => b"refused 3",
+        Refusal::Setting => b"refused 4",
+        Refusal::Decimal => b"refused 5",
+        Refusal::Early => b"refused 6",
+    }
 }
 
 // No text is longer than the buffer.
@@ -88,7 +100,8 @@ fn escaped(stdout: &mut Stdout, s: &[u8]) {
     let mut rest = s;
     while let Some(n) = rest.iter().position(|b| !is_plain(*b)) {
         rows::say(stdout, &rest[..n]);
-        let _ = write!(stdout, "\\{:02x}", rest[n]);
+        rows::say(stdout, b"\\");
+        let _ = streams::print_hex(stdout, u64::from(rest[n]), 2);
         rest = &rest[n + 1..];
     }
     rows::say(stdout, rest);

@@ -9,7 +9,9 @@
 // Rows and answers are stored as crates/test_numbers/stdin and stdout. oracle/numbers makes both, and its README.md says how.
 #![tactic(auto)]
 
-use std::io::{Stdout, Write};
+ghost use Rattle.std.specs.Prelude.{◌<◌};
+
+use std::io::Stdout;
 
 fn main(rt: HostRuntime) {
     let mut stdout = rt.stdout();
@@ -44,16 +46,29 @@ fn three(stdout: &mut Stdout, x: f64) {
     if !real::below(x, 9007199254740992.0) {
         return rows::say(stdout, b"?");
     }
-    let sign = if x.is_sign_negative() { "-" } else { "" };
-    let n = real::thousandths(x);
-    let _ = write!(stdout, "{sign}{}.{:03}", n / 1000, n % 1000);
+    if x.is_sign_negative() {
+        rows::say(stdout, b"-");
+    }
+    fixed(stdout, real::thousandths(x), 1000);
 }
 
 fn nine(stdout: &mut Stdout, x: f64) {
     if 1000000.0 <= x && x < 8388608.0 {
-        let n = real::billionths(x);
-        let _ = write!(stdout, "{}.{:09}", n / 1000000000, n % 1000000000);
+        fixed(stdout, real::billionths(x), 1000000000);
     } else {
         rows::say(stdout, b"?");
+    }
+}
+
+// n / unit as a decimal, with all the places that unit has zeros.
+fn fixed(stdout: &mut Stdout, n: u64, unit: u64)
+    requires { 0 < unit }
+{
+    rows::decimal(stdout, n / unit);
+    rows::say(stdout, b".");
+    let mut place = unit / 10;
+    while place > 0 {
+        rows::decimal(stdout, n / place % 10);
+        place /= 10;
     }
 }

@@ -10,7 +10,7 @@
 use calendar::Instant;
 use moment::Clock;
 use rules::Refusal;
-use std::io::{Stdout, Write};
+use std::io::Stdout;
 
 fn main(rt: HostRuntime) {
     let mut stdout = rt.stdout();
@@ -24,12 +24,12 @@ fn main(rt: HostRuntime) {
     });
 }
 
-// A time value's two answers.
+// A time value's two answers. A refusal's are one text and so one write, where words of one column in crate rows would take three.
 fn row(stdout: &mut Stdout, s: &[u8], clock: Clock) {
     match instant(s, clock) {
         Ok((at, subsec)) => answers(stdout, at, subsec),
-        Err(Refusal::Shape) => rows::say(stdout, b"refused 2\trefused 2"),
-        Err(Refusal::Bytes) => rows::say(stdout, b"refused 3\trefused 3"),
+        Err(Refusal::Shape) => return rows::say(stdout, b"refused 2\trefused 2\n"),
+        Err(Refusal::Bytes) => return rows::say(stdout, b"refused 3\trefused 3\n"),
         Err(Refusal::Decimal) => rows::say(stdout, b"refused 5\trefused 5"),
         Err(_) => rows::say(stdout, b"null\tnull"),
     }
@@ -54,6 +54,13 @@ fn answers(stdout: &mut Stdout, at: Instant, subsec: bool) {
     if subsec {
         rows::float(stdout, real::unix_real(at.ms));
     } else {
-        let _ = write!(stdout, "{}", real::unix_seconds(at.ms));
+        seconds(stdout, real::unix_seconds(at.ms));
     }
+}
+
+fn seconds(stdout: &mut Stdout, n: i64) {
+    if n < 0 {
+        rows::say(stdout, b"-");
+    }
+    rows::decimal(stdout, n.unsigned_abs());
 }

@@ -2,8 +2,8 @@
 use Prim.Native.Nat.{◌-◌, ◌≤◌}
 use Rattle.test_days.proofs.main.Given as goal
 
-abbrev pub invariant-loop-day : goal.invariant-loop-day
-invariant-loop-day l = l.day ≤ 5373485
+abbrev pub invariant-loop-number : goal.invariant-loop-number
+invariant-loop-number l = l.number ≤ 5373485
 
-abbrev pub decreases-loop-day : goal.decreases-loop-day
-decreases-loop-day l = 5373485 - l.day
+abbrev pub decreases-loop-number : goal.decreases-loop-number
+decreases-loop-number l = 5373485 - l.number

@@ -11,5 +11,5 @@ two23 : of_bits binary64 4710765210229538816 ≡ number 8388608
 unfolding of_bits of_int round
 two23 = refl
 
-pub billionths-n-requires : goal.billionths-n-requires
-billionths-n-requires c = rw (sym million, sym two23, c.if-x.true, c.if-x-2.true)
+pub billionths-requires : goal.billionths-requires
+billionths-requires c = rw (sym million, sym two23, c.if-x.true, c.if-x-2.true)

@@ -7,5 +7,5 @@ two53 : of_bits binary64 4845873199050653696 ≡ number 9007199254740992
 unfolding of_bits of_int round
 two53 = refl
 
-pub thousandths-n-requires : goal.thousandths-n-requires
-thousandths-n-requires c = rw (sym two53) (cc (c.below.ensures, c.if-not-below.false))
+pub thousandths-requires : goal.thousandths-requires
+thousandths-requires c = rw (sym two53) (cc (c.below.ensures, c.if-not-below.false))
