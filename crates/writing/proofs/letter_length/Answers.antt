@@ -22,7 +22,7 @@ answer p h c k n e i =
     let j : n ≡ length (text_of (letter c p)) = i ∙ ap (λ (b : ℕ). length (text_of (letter b p))) (sym e) in
     (j, omega (arith, j, seventeen p h c))
 
--- no letter writes at most 0 bytes
+-- what is no letter writes 0 bytes
 unwrap_most : (o : Option ℕ) (most : ℕ) → MatchOption o (most ≡ 0) (λ n. (n ≡ most) × (0 < n) × (n ≤ 17)) → (unwrap_or o 0 ≡ most) × (unwrap_or o 0 ≤ 17)
 unwrap_most None most h = (sym h, lit≤ tt)
 unwrap_most (Some n) most h = (h.0, h.2)
