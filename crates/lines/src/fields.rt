@@ -30,7 +30,8 @@ pub fn next_field(rest: Option<&[u8]>) -> Result<(&[u8], Option<&[u8]>), Refusal
 }
 
 // Lays the modifiers of a line at the front of the room, each ended by a zero byte: each tab becomes one, and one more ends the last.
-// Returns how many bytes they take. (By place: a zip of both would need an invariant on what `iter_mut` still lends.)
+// Returns how many bytes they take. (By place: a zip of both would need an invariant on what `iter_mut` still lends. That the room is long
+// enough is a clause here and in the calls above: it is lent as a slice, and what it must hold depends on the rest of the line.)
 pub fn lay_modifiers(rest: Option<&[u8]>, room: &mut [u8]) -> usize
     requires { following (rest_of rest) ≤ length room.old }
     ensures { Laid room.old 0 (buffered (fields_of (rest_of rest.entry))) room.new result }

@@ -3,7 +3,7 @@
 // A step that moves the milliseconds takes a record to which at most 15 modifiers came before (`Movable`), and one more has come to what it
 // hands back (`Moved`). One that only fills takes any, and hands back one that is no further (`Filled`).
 // `Movable` is a clause and no type: how far the milliseconds may have gone depends on how many modifiers came before, so such a type would
-// be made anew at each turn of the walk and taken off at each step.
+// be made anew at each turn of the walk and taken off at each step. So is `≤ step_most`, which is asked of a count on its way into a step.
 ghost use Rattle.std.specs.Prelude.{◌≡◌, false, not, ◌&&◌, ◌||◌, [], ◌*◌, ◌≤◌, unsigned_abs};
 ghost use Rattle.rules.specs.Calendar.{in_range};
 ghost use Rattle.rules.specs.Floats.{cut};
