@@ -18,6 +18,7 @@ mod stamps;
 
 // What comes back. `kind`: 0 refused, 1 a text in the lent buffer, 2 an integer, 3 an f64. `refusal`: 0, or document 01's number 1 to 7.
 // `length`: of the text; with refusal 7 the length needed. The fields that a kind does not use are 0.
+// Numbers and no enum: it is the C interface's struct (include/).
 #[repr(C)]
 #[derive(Clone, Copy)]
 pub struct Reply {

@@ -20,7 +20,8 @@ use rules::{Answer, Given, Refusal, Setting, Unanswered};
 // The Unix epoch, as milliseconds are held.
 const UNIX_EPOCH: u64 = 9223582903614775808;
 
-// Milliseconds from 1970, with their sign.
+// Milliseconds from 1970, with their sign. (Real's `signed` is the same of another start; one function of the start would be no shorter than
+// either.)
 fn since_epoch(at: Instant) -> i64
     ensures { result ≡ since_epoch at.ms }
 {

@@ -28,7 +28,8 @@ const UNKNOWN_DATE: Ymd = Ymd {
     day: 1,
 };
 
-// No zone as it is held, which is 0 minutes east of UTC.
+// No zone as it is held, which is 0 minutes east of UTC. No Option: the rules' record holds it so (`no_zone`), and `held` gives the field as it
+// stands.
 pub const NO_ZONE: u32 = 1440;
 
 // The instant of a date and a time of day in a zone. No zone, held as 1440 minutes, is 86400000 ms. It takes numbers and stays a function:

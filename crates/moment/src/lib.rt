@@ -41,7 +41,7 @@ pub struct Moment {
     pub counted: bool,
     pub dated: bool,
     pub timed: bool,
-    // the seconds are a number as it was given
+    // likewise: the seconds are a number as it was given
     pub raw: bool,
     // a field sum failed
     pub failed: bool,

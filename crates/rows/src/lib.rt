@@ -144,7 +144,8 @@ fn after_zero(line: &[u8]) -> &[u8]
     }
 }
 
-// The number that the digits at the front write, as far as it is within a limit.
+// The number that the digits at the front write, as far as it is within a limit. Not crate lines' reader, which is part of what is tested and
+// refuses where this stops.
 fn number(s: &[u8], limit: u64) -> u64
     requires { limit ≤ 253402300799999 }
     ensures value { result ≡ number limit s.now }

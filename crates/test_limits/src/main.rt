@@ -49,6 +49,7 @@ fn row(stdout: &mut Stdout, line: &[u8], bytes: &mut [u8], buffer: &mut [u8]) ->
     Some(())
 }
 
+// A match, as a table of functions would hold function pointers.
 fn called(c: &Call, out: &mut [u8]) -> Result<Answer, Unanswered> {
     match c.which {
         Which::Date => datetime::date(c.set, c.first, c.value, c.last, out),

@@ -117,6 +117,8 @@ fn sign(plus: bool) -> u8
     if plus { b'+' } else { b'-' }
 }
 
+// The buffer and the place are two arguments, as in crate digits, whose head says why.
+
 // "four or more year digits"
 fn put_years(buf: &mut [u8], at: usize, years: u32) -> usize
     requires { Room buf.old at (wide 4 years) }

@@ -58,6 +58,7 @@ fn answers(stdout: &mut Stdout, at: Instant, subsec: bool) {
     }
 }
 
+// The sign is a write of its own, as it was.
 fn seconds(stdout: &mut Stdout, n: i64) {
     if n < 0 {
         rows::say(stdout, b"-");
