@@ -20,12 +20,15 @@ use rules::{Answer, Given, Refusal, Setting, Unanswered};
 // The Unix epoch, as milliseconds are held.
 const UNIX_EPOCH: u64 = 9223582903614775808;
 
-// Milliseconds from 1970, with their sign. (Real's `signed` is the same of another start; one function of the start would be no shorter than
-// either.)
+// Milliseconds from 1970, with their sign: of an instant each fits. (Real's `signed` takes any milliseconds, from another start.)
 fn since_epoch(at: Instant) -> i64
     ensures { result ≡ since_epoch at.ms }
 {
-    at.ms.wrapping_sub(UNIX_EPOCH).cast_signed()
+    if at.ms >= UNIX_EPOCH {
+        (at.ms - UNIX_EPOCH) as i64
+    } else {
+        -((UNIX_EPOCH - at.ms) as i64)
+    }
 }
 
 #[tactic(auto, unfolding(crate::specs::Milliseconds::milliseconds, rules::specs::Calls::answered))]

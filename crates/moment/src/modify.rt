@@ -4,7 +4,8 @@
 // hands back (`Moved`). One that only fills takes any, and hands back one that is no further (`Filled`).
 // `Movable` is a clause and no type: how far the milliseconds may have gone depends on how many modifiers came before, so such a type would
 // be made anew at each turn of the walk and taken off at each step. So is `≤ step_most`, which is asked of a count on its way into a step.
-ghost use Rattle.std.specs.Prelude.{◌≡◌, false, not, ◌&&◌, ◌||◌, [], ◌*◌, ◌≤◌, unsigned_abs};
+ghost use Rattle.std.specs.Prelude.{◌≡◌, false, not, ◌&&◌, ◌||◌, [], ◌+◌, ◌*◌, ◌^◌, ◌≤◌, ◌<◌, unsigned_abs};
+ghost use Rattle.rules.specs.Basics.{move};
 ghost use Rattle.rules.specs.Calendar.{in_range};
 ghost use Rattle.rules.specs.Floats.{cut};
 ghost use Rattle.rules.specs.Functions as functions;
@@ -26,6 +27,15 @@ const DAY: u64 = 86400000;
 
 // The start of -4713-11-23, a Sunday.
 const SUNDAY: u64 = 9223372036725175808;
+
+// A number and one with a sign, where their sum fits.
+fn sum(n: u64, by: i64) -> u64
+    requires { (unsigned_abs by ≤ n) × (n + unsigned_abs by < 2 ^ 64) }
+    ensures { result ≡ move n by 1 }
+{
+    let size = by.unsigned_abs();
+    if by < 0 { n - size } else { n + size }
+}
 
 // The days on to the next day n of the week (0 is Sunday), none if t is one. Before SUNDAY the Rust's quotient and remainder, cut toward
 // zero, are not the day of the week; they are kept.
@@ -78,7 +88,7 @@ impl Moment {
         requires { Movable (held self) × (unsigned_abs by ≤ step_most) }
         ensures { Moved self result (rule.clear (rule.moved (held self) by 1)) }
     {
-        self.ms = self.ms.wrapping_add_signed(by);
+        self.ms = sum(self.ms, by);
         self.clear()
     }
 
@@ -239,13 +249,13 @@ impl Moment {
 
     // "A month shift keeps the day, which may then run over." "months below one are normalised by signed division": no count of months from
     // the year held as 0 is below one.
-    #[tactic(auto, using(crate::proofs::Ways::move_wraps), unfolding(rules::specs::Moments::shift))]
+    #[tactic(auto, unfolding(rules::specs::Moments::shift))]
     pub fn shift(mut self, months: i64) -> Moment
         requires { ReadYear self.year × (unsigned_abs months ≤ 176545) }
         ensures { held result ≡ rule.shift (held self) months 1 }
     {
         let month = (self.year * 12 + (self.month - 1)) as u64;
-        let shifted = month.wrapping_add_signed(months);
+        let shifted = sum(month, months);
         self.year = (shifted / 12) as u32;
         self.month = (shifted % 12) as u32 + 1;
         self
@@ -275,7 +285,7 @@ impl Moment {
     // ---- for the functions
 
     // Whether the milliseconds stand for an instant: no sum failed, and they are 0 to the last.
-    fn in_range(self) -> bool
+    pub fn in_range(self) -> bool
         ensures { result ≡ (not self.failed && in_range self.ms) }
     {
         !self.failed && Instant::new(self.ms).is_some()

@@ -139,11 +139,15 @@ const UNIX_EPOCH: u64 = 9223582903614775808;
 // Noon of -4713-11-24, as it is held.
 const START: u64 = 9223372036854775808;
 
-// Held milliseconds with their sign.
+// Held milliseconds with their sign. Below 0 the difference is taken to -1, since its size need not fit.
 fn signed(ms: u64) -> i64
     ensures { result ≡ minus ms 9223372036854775808 }
 {
-    ms.wrapping_sub(START).cast_signed()
+    if ms >= START {
+        (ms - START) as i64
+    } else {
+        -1 - (START - 1 - ms) as i64
+    }
 }
 
 // Whole seconds from 1970, "rounded by floor, so -500 ms is second -1". The epoch is a whole second, so it may be taken off after the
