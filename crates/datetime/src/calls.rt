@@ -145,12 +145,17 @@ fn present(given: Given) -> Given
 }
 
 // "final range" of both, which is refused alike.
-#[tactic(auto, unfolding(crate::specs::Instants::ranged_both))]
 fn both_ranged(p: Moment, q: Moment) -> Result<(Instant, Instant), Refusal>
     ensures { read_both result ≡ ranged_both (held p) (held q) }
 {
-    let p = p.ranged()?;
-    let q = q.ranged()?;
+    let p = p.count_ms();
+    let q = q.count_ms();
+    if !p.in_range() {
+        return Err(Refusal::Null);
+    }
+    if !q.in_range() {
+        return Err(Refusal::Null);
+    }
     Ok((Instant { ms: p.ms }, Instant { ms: q.ms }))
 }
 

@@ -111,7 +111,7 @@ pub fn unixepoch(
     ensures { result ≡ answered (answer set (call Function.Unixepoch (value_of given value.now) modifiers.now)) 0 }
 {
     let p = calls::moment_of(set, given, value, modifiers)?;
-    Ok(texts::unix(p))
+    Ok(texts::unix(p.ms, p.subsec))
 }
 
 // What a format says of the moment.

@@ -5,13 +5,11 @@
 ghost use Rattle.std.specs.Prelude.{◌≡◌, ◌≤◌, ◌<◌, [], ◌++◌, length, MatchResult, Ok};
 ghost use Rattle.rules.specs.Basics.{ascii};
 ghost use Rattle.rules.specs.Calls.{text, answered};
-ghost use Rattle.rules.specs.Functions.{outcome_of};
 ghost use Rattle.rules.specs.Writing as rule;
-ghost use Rattle.rules.specs.declared.Function.{Function};
 ghost use Rattle.rules.specs.declared.Unanswered.{Unanswered};
 ghost use Rattle.moment.specs.Held.{held};
 ghost use Rattle.moment.specs.Ranges.{Full};
-ghost use Rattle.datetime.specs.Given.{Gives, formatted_of};
+ghost use Rattle.datetime.specs.Given.{Gives, formatted_of, unix_of};
 
 use calendar::Instant;
 use digits::put_byte;
@@ -69,15 +67,15 @@ pub fn difference(a: Instant, b: Instant, out: &mut [u8]) -> Result<Answer, Unan
     Ok(Answer::Text(timediff::put_span(out, 0, span)))
 }
 
-// Seconds since the Unix epoch. With subsec: an f64.
-#[tactic(auto, unfolding(rules::specs::Calls::answered, rules::specs::Functions::outcome_of))]
-pub fn unix(p: Moment) -> Answer
-    ensures { Ok result ≡ answered (outcome_of Function.Unixepoch [] (held p)) 0 }
+// Seconds since the Unix epoch, of any milliseconds. With subsec: an f64.
+#[tactic(auto, unfolding(rules::specs::Calls::answered))]
+pub fn unix(ms: u64, subsec: bool) -> Answer
+    ensures { Ok result ≡ answered (unix_of ms subsec) 0 }
 {
-    if p.subsec {
-        return Answer::Real(real::unix_real(p.ms));
+    if subsec {
+        return Answer::Real(real::unix_real(ms));
     }
-    Answer::Integer(real::unix_seconds(p.ms))
+    Answer::Integer(real::unix_seconds(ms))
 }
 
 // What a format says. An exact length is worked out only where the bound has no room.
