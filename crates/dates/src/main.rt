@@ -106,7 +106,8 @@ impl Output {
 
     // Writes out what is there.
     fn flush(&mut self, stdout: &mut Stdout) -> Result<(), Unwritten>
-        ensures { self.new.used ≡ 0 }
+        ensures emptied { self.new.used ≡ 0 }
+        ensures untouched { self.new.bytes ≡ self.old.bytes }
     {
         let used = self.used;
         self.used = 0;
@@ -115,7 +116,8 @@ impl Output {
 
     // Writes it out where an answer might find no room.
     fn make_room(&mut self, stdout: &mut Stdout) -> Result<(), Unwritten>
-        ensures { HasRoom self.new.used }
+        ensures room { HasRoom self.new.used }
+        ensures untouched { self.new.bytes ≡ self.old.bytes }
     {
         if self.has_room() {
             return Ok(());
