@@ -56,6 +56,9 @@ last p b e = rw (eq-eqb 37 b (sym e))
 pub record Passed (p : Moment) (f rest done : List ℕ) : Type 0 where
   pub is : formatted p f ≡ before (got done) (formatted p rest)
 
+pub passed_none : {p : Moment} {f : List ℕ} → Passed p f f []
+passed_none {p} {f} = record { is = before_none (formatted p f) }
+
 pub passed_plain : {p : Moment} {f : List ℕ} {b : ℕ} {s done : List ℕ} → (b ≡ 37 → ⊥) → Passed p f (b ∷ s) done → Passed p f s (done ++ (b ∷ []))
 passed_plain {p} {f} {b} {s} {done} n here = record { is = here.is ∙ ap (before (got done)) (plain p b s n) ∙ before_assoc done (b ∷ []) (formatted p s) }
 

@@ -1,6 +1,6 @@
 -- What the three loops over a format know of its rest: a bound of what was passed, its length, or that it is written. Assumes nothing.
-use Prim.Native.Nat.{ℕ, ◌+◌, ◌*◌, ◌≤◌}
-use mathlib.Core.Path.{◌≡◌, refl, sym, ap, ◌∙◌}
+use Prim.Native.Nat.{ℕ, ◌+◌, ◌-◌, ◌*◌, ◌≤◌}
+use mathlib.Core.Path.{◌≡◌, refl, sym, ap, subst, ◌∙◌}
 use mathlib.Core.List.{List, [], ◌∷◌, ◌++◌}
 use native.Mathlib.Omega.{arith}
 use lib.ListN.{length, length-append}
@@ -12,7 +12,7 @@ use Rattle.rules.specs.declared.Refusal.{Refusal}
 use Rattle.digits.specs.Writers.{Room, Laid}
 use Rattle.digits.proofs.Buffer.{room_as, room_first, room_then, laid_then}
 use Rattle.writing.specs.Formats.{text_of, IsText, PutIs, CheckIs, most, most_of}
-use Rattle.writing.proofs.Formats.{Passed, passed_plain, passed_letter, passed_refused, passed_last, passed_end, letter_text_lem, after_letter, after_plain}
+use Rattle.writing.proofs.Formats.{Passed, passed_none, passed_plain, passed_letter, passed_refused, passed_last, passed_end, letter_text_lem, after_letter, after_plain}
 use Rattle.writing.proofs.Bounds.{bound_byte, bound_pair, bound_few}
 
 -- ---- check
@@ -70,6 +70,34 @@ pub bounded_end : {p : Moment} {f : List ℕ} {sum : ℕ} → Bounded p f [] sum
 unfolding most_of
 bounded_end so = rw (passed_end so.passed) (so.short, omega (arith, so.exact))
 
+-- the bound as the loop holds it, with one for each byte that is left
+pub record Summed (p : Moment) (f rest : List ℕ) (bound : ℕ) : Type 0 where
+  pub sum : ℕ
+  pub so : Bounded p f rest sum
+  pub is : bound ≡ sum + length rest
+  pub left : length rest ≤ length f
+
+pub summed_none : {p : Moment} {f : List ℕ} → Summed p f f (length f)
+summed_none {p} {f} = record { sum = 0; so = record { done = []; passed = passed_none; short = omega arith; exact = omega arith }; is = omega arith; left = omega arith }
+
+pub summed_fits : {p : Moment} {f rest : List ℕ} {bound : ℕ} → Summed p f rest bound → bound ≤ 18 * length f
+summed_fits h = omega (arith, bounded_fits h.so, h.is, h.left)
+
+pub summed_plain : {p : Moment} {f s : List ℕ} {b bound : ℕ} → (b ≡ 37 → ⊥) → Summed p f (b ∷ s) bound → Summed p f s bound
+summed_plain n h = record { sum = h.sum + 1; so = bounded_plain n h.so; is = omega (arith, h.is); left = omega (arith, h.left) }
+
+module _ {p : Moment} {f s : List ℕ} {b c bound : ℕ} (h : Summed p f (b ∷ c ∷ s) bound) where
+  pub summed_two : 2 ≤ bound
+  summed_two = omega (arith, h.is)
+
+  pub summed_letter : b ≡ 37 → (n : ℕ) → CheckIs (letter c p) (most c) (Ok n) → Summed p f s (bound - 2 + n)
+  summed_letter e n k = record { sum = h.sum + n; so = bounded_letter e h.so n k; is = omega (arith, h.is); left = omega (arith, h.left) }
+
+pub summed_end : {p : Moment} {f : List ℕ} {bound : ℕ} → Summed p f [] bound → CheckIs (formatted p f) (most_of f) (Ok bound)
+summed_end {p} {f} {bound} h =
+    let e : h.sum ≡ bound = omega (arith, h.is) in
+    subst (λ (n : ℕ). CheckIs (formatted p f) (most_of f) (Ok n)) e (bounded_end h.so)
+
 -- ---- format_length
 pub record Counted (p : Moment) (f rest : List ℕ) (n : ℕ) : Type 0 where
   pub done : List ℕ
@@ -113,11 +141,11 @@ module _ {p : Moment} {f old : List ℕ} {at : ℕ} {s new : List ℕ} {b c next
   pub room_letter : Room old at (text_of (formatted p f)) → Room new next (text_of (letter c p))
   room_letter room = room_first _ _ (room_then so.laid (room_as (after_letter text e so.passed) room))
 
+  pub written_laid : (new' : List ℕ) (o : ℕ) → Laid new next (text_of (letter c p)) new' o → Written p f old at s new' o
+  written_laid new' o l = record { done = so.done ++ text_of (letter c p); passed = passed_letter e so.passed (letter_text_lem text e so.passed); laid = laid_then so.laid l }
+
   pub written_letter : (new' : List ℕ) (o : ℕ) → PutIs (letter c p) new next new' (Ok o) → Written p f old at s new' o
-  written_letter new' o l =
-      let is = letter_text_lem text e so.passed in
-      let here : Laid new next (text_of (letter c p)) new' o = rw is at l in
-      record { done = so.done ++ text_of (letter c p); passed = passed_letter e so.passed is; laid = laid_then so.laid here }
+  written_letter new' o l = written_laid new' o (rw (letter_text_lem text e so.passed) at l)
 
   -- a letter is not refused where there is a text
   pub written_refused : (new' : List ℕ) (x : Refusal) → PutIs (letter c p) new next new' (Err x) → ⊥

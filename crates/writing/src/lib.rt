@@ -161,7 +161,8 @@ fn week(p: Moment, since: u32) -> u32
     (day_of_year(p) + 7 - since) / 7
 }
 
-// The seconds since the Unix epoch.
+// The seconds since the Unix epoch. Inlined, since a call is lent the record (`put_format`'s copy).
+#[inline(always)]
 fn put_unix(buf: &mut [u8], at: usize, p: Moment) -> usize
     requires full { Full (held p) }
     requires room { Room buf.old at (text.unix_text (held p)) }
@@ -191,7 +192,8 @@ fn unix_length(p: Moment) -> usize
 // 86400000000000 ms, as they are held: `%J` is written from there on.
 const EARLY: u64 = 9223458436854775808;
 
-// The Julian day. 6: "`%J` is met with under 86400000000000 ms".
+// The Julian day. 6: "`%J` is met with under 86400000000000 ms". Inlined, since a call hands its Result back through memory.
+#[inline(always)]
 #[tactic(auto, using(crate::proofs::Texts::julian_early, crate::proofs::Texts::julian_late))]
 fn put_julian_day(buf: &mut [u8], at: usize, instant: Instant) -> Result<usize, Refusal>
     requires { Room buf.old at (text_of (text.julian_letter instant.ms)) }
@@ -205,9 +207,7 @@ fn put_julian_day(buf: &mut [u8], at: usize, instant: Instant) -> Result<usize, 
 
 // "Twenty-six letters and the percent sign are read after a `%` .. Another letter .. gives 1." A match, as a table would hold function
 // pointers.
-//
-// It stays a function: inlined into the loop over a format, it would have what any letter may ask worked out before the first.
-#[inline(never)]
+#[inline(always)]
 fn put_letter(buf: &mut [u8], at: usize, p: Moment, c: u8) -> Result<usize, Refusal>
     requires full { Full (held p) }
     requires room { Room buf.old at (text_of (text.letter c (held p))) }
@@ -243,6 +243,21 @@ fn put_letter(buf: &mut [u8], at: usize, p: Moment, c: u8) -> Result<usize, Refu
         b'Y' => Ok(put_year(buf, at, 3, p.year)),
         b'%' => Ok(put_byte(buf, at, b'%')),
         _ => Err(Refusal::Null),
+    }
+}
+
+// The same for a letter that is not refused, and it stays a function: inlined into a loop over a format, `put_letter` has what any letter
+// may ask worked out before the first, and each is cheaper then. So a format of few letters is put by this, and a long one's rest is not.
+#[inline(never)]
+fn put_letter_alone(buf: &mut [u8], at: usize, p: Moment, c: u8) -> usize
+    requires full { Full (held p) }
+    requires is_text { IsText (text.letter c (held p)) }
+    requires room { Room buf.old at (text_of (text.letter c (held p))) }
+    ensures { Laid buf.old at (text_of (text.letter c (held p))) buf.new result }
+{
+    match put_letter(buf, at, p, c) {
+        Ok(after) => after,
+        Err(_) => unreachable!(),
     }
 }
 
@@ -313,13 +328,11 @@ enum Part {
 fn next_part(format: &[u8]) -> Option<(Part, &[u8])>
     ensures { MatchOption result (format.now ≡ []) (λ r. FrontIs r.0 r.1.now format.now) }
 {
-    let (b, rest) = format.split_first()?;
-    if *b != b'%' {
-        return Some((Part::Byte(*b), rest));
-    }
-    match rest.split_first() {
-        Some((c, rest)) => Some((Part::Letter(*c), rest)),
-        None => Some((Part::Last, rest)),
+    match format {
+        [b, rest @ ..] if *b != b'%' => Some((Part::Byte(*b), rest)),
+        [_, c, rest @ ..] => Some((Part::Letter(*c), rest)),
+        [_, rest @ ..] => Some((Part::Last, rest)),
+        [] => None,
     }
 }
 
@@ -336,20 +349,22 @@ fn check_letter(p: Moment, c: u8) -> Result<usize, Refusal>
 }
 
 // "format left to right (with 6)": the first refusal, or the sum of the letters' bounds, one for any other byte. A last `%` gives 1. No
-// format is so long that 17 times its length would not fit.
+// format is so long that 18 times its length would not fit.
+//
+// The bytes are counted beforehand, and a letter's two taken off again: so one that stands for itself is passed with no sum.
 pub fn check(p: Moment, format: &[u8]) -> Result<usize, Refusal>
     requires full { Full (held p) }
     requires short { length format.now < 2 ^ 58 }
     ensures { CheckIs (text.formatted (held p) format.now) (most_of format.now) result }
 {
     let mut left = format;
-    let mut most = 0;
+    let mut most = format.len();
     while let Some((part, rest)) = next_part(left) {
-        most += match part {
-            Part::Byte(_) => 1,
-            Part::Letter(c) => check_letter(p, c)?,
+        match part {
+            Part::Byte(_) => {}
+            Part::Letter(c) => most = most - 2 + check_letter(p, c)?,
             Part::Last => return Err(Refusal::Null),
-        };
+        }
         left = rest;
     }
     Ok(most)
@@ -375,6 +390,10 @@ pub fn format_length(p: Moment, format: &[u8]) -> usize
     n
 }
 
+// So many letters are put by calls. To work out what any letter may ask, as the loop for those past them does, takes about as long as ten
+// calls do.
+const FEW: u32 = 10;
+
 // What a format that `check` let through writes: a `%` and a letter stand for what the letter writes, any other byte for itself. So no
 // letter is refused here.
 pub fn put_format(buf: &mut [u8], at: usize, p: Moment, format: &[u8]) -> Result<usize, Refusal>
@@ -385,10 +404,27 @@ pub fn put_format(buf: &mut [u8], at: usize, p: Moment, format: &[u8]) -> Result
 {
     let mut left = format;
     let mut next = at;
+    let mut letters = 0;
+    while let Some((part, rest)) = next_part(left) {
+        match part {
+            Part::Byte(b) => next = put_byte(buf, next, b),
+            Part::Letter(c) => {
+                if letters == FEW {
+                    break;
+                }
+                letters += 1;
+                next = put_letter_alone(buf, next, p, c);
+            }
+            Part::Last => unreachable!(),
+        }
+        left = rest;
+    }
+    // A copy: the record's address goes into the calls above, so its fields would be read again for each letter.
+    let copy = p;
     while let Some((part, rest)) = next_part(left) {
         next = match part {
             Part::Byte(b) => put_byte(buf, next, b),
-            Part::Letter(c) => put_letter(buf, next, p, c)?,
+            Part::Letter(c) => put_letter(buf, next, copy, c)?,
             Part::Last => unreachable!(),
         };
         left = rest;
