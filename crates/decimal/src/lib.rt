@@ -12,11 +12,11 @@
 // digits after the point, of which a slice has fewer than 2^63, bring it back to 22.
 #![tactic(auto)]
 
-ghost use Rattle.std.specs.Prelude.{if◌then◌else◌, ◌≡◌};
+ghost use Rattle.std.specs.Prelude.{if◌then◌else◌, ◌≡◌, ◌+◌, ◌*◌};
 ghost use Rattle.std.specs.Float.Ieee.{neg};
 ghost use Rattle.rules.specs.Basics.{read_some, read_ok, read_tried};
 ghost use Rattle.rules.specs.Decimal as rule;
-ghost use Rattle.decimal.specs.Held.{held_exponent, scaled, Taken};
+ghost use Rattle.decimal.specs.Held.{held, held_exponent, scaled, Taken};
 
 use rules::Refusal;
 
@@ -107,6 +107,17 @@ struct Digits<'a> {
     rest: &'a [u8],
 }
 
+// A held number with one digit more. Below 10^18 it fits, which is sooner seen than that a product does.
+fn more(value: u64, d: u8) -> u64
+    ensures { result ≡ held (value * 10 + d) }
+{
+    if value < 1000000000000000000 {
+        value * 10 + u64::from(d)
+    } else {
+        value.saturating_mul(10).saturating_add(u64::from(d))
+    }
+}
+
 // The digits at the front, after digits whose number is `from`.
 fn run(s: &[u8], from: u64) -> Digits<'_>
     ensures { Taken (rule.run s.now) from result }
@@ -114,7 +125,7 @@ fn run(s: &[u8], from: u64) -> Digits<'_>
     let mut value = from;
     let mut rest = s;
     while let Some((d, after)) = real::digit(rest) {
-        value = value.saturating_mul(10).saturating_add(u64::from(d));
+        value = more(value, d);
         rest = after;
     }
     Digits {

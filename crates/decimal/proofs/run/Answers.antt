@@ -29,9 +29,7 @@ ends s before v rest r g =
     }
 
 pub loop-d-preserved : goal.loop-d-preserved
-loop-d-preserved c =
-    let e : c.saturating_add-value.result ≡ held (c.loop-d.value * 10 + c.in-Some.d) = omega (arith, c.saturating_add-value.ensures, c.saturating_mul.ensures, c.from.ensures) in
-    rw e (goes_on _ _ _ _ _ _ c.in-Some.ensures.digit c.in-Some.ensures.shorter c.loop-d.invariant)
+loop-d-preserved c = rw c.more-value.ensures (goes_on _ _ _ _ _ _ c.in-Some.ensures.digit c.in-Some.ensures.shorter c.loop-d.invariant)
 
 pub returns : goal.returns
 returns c = ends _ _ _ _ c.in_default.ensures.other c.loop-d.invariant
