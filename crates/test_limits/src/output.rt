@@ -1,7 +1,6 @@
 // What is written, and the pattern by which every byte of the buffer is known again.
 ghost use Rattle.std.specs.Prelude.{◌≤◌, length};
 
-use itoa::Buffer;
 use rules::{Answer, Refusal, Unanswered};
 use std::io::Stdout;
 
@@ -21,11 +20,12 @@ pub fn fill(buffer: &mut [u8]) {
 
 // Whether every byte from a place on is the pattern's, which goes by the place in the whole buffer: a rest would need that beside it.
 fn is_kept(buffer: &[u8], from: usize) -> bool {
-    buffer
-        .iter()
-        .enumerate()
-        .skip(from)
-        .all(|(i, b)| *b == pattern(i))
+    for i in from..buffer.len() {
+        if buffer[i] != pattern(i) {
+            return false;
+        }
+    }
+    true
 }
 
 // Says whether every byte from a place on was kept, and lays the pattern again where it was not.
@@ -47,10 +47,7 @@ fn settle(stdout: &mut Stdout, buffer: &mut [u8], from: usize)
 pub fn report(stdout: &mut Stdout, answer: Result<Answer, Unanswered>, buffer: &mut [u8]) {
     match answer {
         Ok(Answer::Text(n)) => return text(stdout, buffer, n),
-        Ok(Answer::Integer(n)) => {
-            rows::say(stdout, b"integer ");
-            rows::say(stdout, Buffer::new().format(n).as_bytes());
-        }
+        Ok(Answer::Integer(n)) => integer(stdout, n),
         Ok(Answer::Real(x)) => {
             rows::say(stdout, b"real ");
             rows::float(stdout, x);
@@ -65,6 +62,16 @@ pub fn report(stdout: &mut Stdout, answer: Result<Answer, Unanswered>, buffer: &
 fn counted(stdout: &mut Stdout, word: &[u8], n: usize) {
     rows::say(stdout, word);
     rows::decimal(stdout, n as u64);
+}
+
+// A number with its sign, written by the port's own writer: at most 20 bytes.
+fn integer(stdout: &mut Stdout, n: i64) {
+    rows::say(stdout, b"integer ");
+    let mut written = [0u8; 20];
+    if digits::integer_length(n) <= written.len() {
+        let end = digits::put_integer(&mut written, 0, n);
+        rows::say(stdout, &written[..end]);
+    }
 }
 
 // The number in the table of document 01. A refusal's words are one text, so that each is one write.
