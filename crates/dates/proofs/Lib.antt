@@ -2,3 +2,4 @@
 pub mod Laying
 pub mod Ended
 pub mod Keeping
+pub mod Last

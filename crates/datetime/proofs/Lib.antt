@@ -6,3 +6,5 @@ pub mod Opened
 pub mod Given
 -- from the moment that a call is about to the call's outcome
 pub mod Answers
+-- the steps of a call where they go on, and where they refuse
+pub mod Cases

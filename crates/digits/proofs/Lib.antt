@@ -9,3 +9,4 @@ pub mod Texts
 pub mod Trim
 pub mod Floats
 pub mod Lengths
+pub mod Splits

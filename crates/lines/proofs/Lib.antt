@@ -14,3 +14,5 @@ pub mod Asking
 -- how long an answer may be: fields of two digits, and what is written of them
 pub mod Few
 pub mod Short
+-- the names by their first letter
+pub mod Letters

@@ -6,3 +6,4 @@ pub mod Written
 pub mod Shifts
 pub mod Buffers
 pub mod Walks
+pub mod Cases

@@ -13,3 +13,9 @@ pub mod Modifiers
 pub mod Chains
 -- the milliseconds of the fields that are meant
 pub mod Sums
+-- months by signed division
+pub mod Carries
+-- the steps that refuse, and the tests that answer no
+pub mod Refused
+-- the ranges, through each setter by itself
+pub mod Keeping

@@ -5,3 +5,5 @@ pub mod Numbers
 pub mod Words
 pub mod Cuts
 pub mod Reading
+pub mod Joined
+pub mod Places

@@ -7,3 +7,4 @@ pub mod Answer
 pub mod PutBack
 pub mod Promise
 pub mod Text
+pub mod Ways

@@ -7,3 +7,4 @@ pub mod Letters
 pub mod Formats
 pub mod Bounds
 pub mod Loops
+pub mod Times
